@@ -1,4 +1,4 @@
-# aes128_decrypt: made by factc function; 1588 words, 592 bytes of stack, profile 1
+# aes128_decrypt: made by factc 1.0.0 function; 1573 words, 592 bytes of stack, profile 1
     .option push
     .option norvc
     .option norelax
@@ -368,7 +368,7 @@ aes128_decrypt:
     .word 0x20012283  # lw x5, 512(x2)
     .word 0x005332b3  # sltu x5, x6, x5
     .word 0x00029463  # bne x5, x0, 8
-    .word 0x0800106f  # jal x0, 4224
+    .word 0x0440106f  # jal x0, 4164
     .word 0x18612a23  # sw x6, 404(x2)
     .word 0x00130313  # addi x6, x6, 1
     .word 0x1e612e23  # sw x6, 508(x2)
@@ -773,7 +773,7 @@ aes128_decrypt:
     .word 0x00050813  # addi x16, x10, 0
     .word 0x19412283  # lw x5, 404(x2)
     .word 0x00a00313  # addi x6, x0, 10
-    .word 0x3862f863  # bgeu x5, x6, 912
+    .word 0x3662f863  # bgeu x5, x6, 880
     .word 0x19412283  # lw x5, 404(x2)
     .word 0x00329493  # slli x9, x5, 3
     .word 0x00c55293  # srli x5, x10, 12
@@ -794,10 +794,9 @@ aes128_decrypt:
     .word 0x00851313  # slli x6, x10, 8
     .word 0x006542b3  # xor x5, x10, x6
     .word 0x01b2f533  # and x10, x5, x27
-    .word 0x00848293  # addi x5, x9, 8
-    .word 0x00229293  # slli x5, x5, 2
+    .word 0x00249293  # slli x5, x9, 2
     .word 0x002282b3  # add x5, x5, x2
-    .word 0x02a2a023  # sw x10, 32(x5)
+    .word 0x04a2a023  # sw x10, 64(x5)
     .word 0x00050813  # addi x16, x10, 0
     .word 0x19412283  # lw x5, 404(x2)
     .word 0x00329293  # slli x5, x5, 3
@@ -821,10 +820,9 @@ aes128_decrypt:
     .word 0x00851313  # slli x6, x10, 8
     .word 0x006542b3  # xor x5, x10, x6
     .word 0x01b2f533  # and x10, x5, x27
-    .word 0x00848293  # addi x5, x9, 8
-    .word 0x00229293  # slli x5, x5, 2
+    .word 0x00249293  # slli x5, x9, 2
     .word 0x002282b3  # add x5, x5, x2
-    .word 0x02a2a023  # sw x10, 32(x5)
+    .word 0x04a2a023  # sw x10, 64(x5)
     .word 0x00050893  # addi x17, x10, 0
     .word 0x19412283  # lw x5, 404(x2)
     .word 0x00329293  # slli x5, x5, 3
@@ -849,10 +847,9 @@ aes128_decrypt:
     .word 0x00851313  # slli x6, x10, 8
     .word 0x006542b3  # xor x5, x10, x6
     .word 0x01b2f533  # and x10, x5, x27
-    .word 0x00848293  # addi x5, x9, 8
-    .word 0x00229293  # slli x5, x5, 2
+    .word 0x00249293  # slli x5, x9, 2
     .word 0x002282b3  # add x5, x5, x2
-    .word 0x02a2a023  # sw x10, 32(x5)
+    .word 0x04a2a023  # sw x10, 64(x5)
     .word 0x00050913  # addi x18, x10, 0
     .word 0x19412283  # lw x5, 404(x2)
     .word 0x00329293  # slli x5, x5, 3
@@ -877,10 +874,9 @@ aes128_decrypt:
     .word 0x00851313  # slli x6, x10, 8
     .word 0x006542b3  # xor x5, x10, x6
     .word 0x01b2f533  # and x10, x5, x27
-    .word 0x00848293  # addi x5, x9, 8
-    .word 0x00229293  # slli x5, x5, 2
+    .word 0x00249293  # slli x5, x9, 2
     .word 0x002282b3  # add x5, x5, x2
-    .word 0x02a2a023  # sw x10, 32(x5)
+    .word 0x04a2a023  # sw x10, 64(x5)
     .word 0x00050993  # addi x19, x10, 0
     .word 0x19412283  # lw x5, 404(x2)
     .word 0x00329293  # slli x5, x5, 3
@@ -904,10 +900,9 @@ aes128_decrypt:
     .word 0x00851313  # slli x6, x10, 8
     .word 0x006542b3  # xor x5, x10, x6
     .word 0x01b2f533  # and x10, x5, x27
-    .word 0x00848293  # addi x5, x9, 8
-    .word 0x00229293  # slli x5, x5, 2
+    .word 0x00249293  # slli x5, x9, 2
     .word 0x002282b3  # add x5, x5, x2
-    .word 0x02a2a023  # sw x10, 32(x5)
+    .word 0x04a2a023  # sw x10, 64(x5)
     .word 0x00050a13  # addi x20, x10, 0
     .word 0x19412283  # lw x5, 404(x2)
     .word 0x00329293  # slli x5, x5, 3
@@ -932,10 +927,9 @@ aes128_decrypt:
     .word 0x00851313  # slli x6, x10, 8
     .word 0x006542b3  # xor x5, x10, x6
     .word 0x01b2f533  # and x10, x5, x27
-    .word 0x00848293  # addi x5, x9, 8
-    .word 0x00229293  # slli x5, x5, 2
+    .word 0x00249293  # slli x5, x9, 2
     .word 0x002282b3  # add x5, x5, x2
-    .word 0x02a2a023  # sw x10, 32(x5)
+    .word 0x04a2a023  # sw x10, 64(x5)
     .word 0x00050a93  # addi x21, x10, 0
     .word 0x19412283  # lw x5, 404(x2)
     .word 0x00329293  # slli x5, x5, 3
@@ -959,10 +953,9 @@ aes128_decrypt:
     .word 0x00851313  # slli x6, x10, 8
     .word 0x006542b3  # xor x5, x10, x6
     .word 0x01b2f533  # and x10, x5, x27
-    .word 0x00848293  # addi x5, x9, 8
-    .word 0x00229293  # slli x5, x5, 2
+    .word 0x00249293  # slli x5, x9, 2
     .word 0x002282b3  # add x5, x5, x2
-    .word 0x02a2a023  # sw x10, 32(x5)
+    .word 0x04a2a023  # sw x10, 64(x5)
     .word 0x00050b13  # addi x22, x10, 0
     .word 0x19412283  # lw x5, 404(x2)
     .word 0x00329293  # slli x5, x5, 3
@@ -986,10 +979,9 @@ aes128_decrypt:
     .word 0x00851313  # slli x6, x10, 8
     .word 0x006542b3  # xor x5, x10, x6
     .word 0x01b2f533  # and x10, x5, x27
-    .word 0x00848293  # addi x5, x9, 8
-    .word 0x00229293  # slli x5, x5, 2
+    .word 0x00249293  # slli x5, x9, 2
     .word 0x002282b3  # add x5, x5, x2
-    .word 0x02a2a023  # sw x10, 32(x5)
+    .word 0x04a2a023  # sw x10, 64(x5)
     .word 0x00050693  # addi x13, x10, 0
     .word 0x18012283  # lw x5, 384(x2)
     .word 0x00129293  # slli x5, x5, 1
@@ -1000,7 +992,7 @@ aes128_decrypt:
     .word 0x0063f333  # and x6, x7, x6
     .word 0x0062c2b3  # xor x5, x5, x6
     .word 0x18512023  # sw x5, 384(x2)
-    .word 0x69c0006f  # jal x0, 1692
+    .word 0x6800006f  # jal x0, 1664
     .word 0x00080513  # addi x10, x16, 0
     .word 0x00088593  # addi x11, x17, 0
     .word 0x00090713  # addi x14, x18, 0
@@ -1044,10 +1036,9 @@ aes128_decrypt:
     .word 0x00259593  # slli x11, x11, 2
     .word 0x00b74633  # xor x12, x14, x11
     .word 0x00050813  # addi x16, x10, 0
-    .word 0x00148313  # addi x6, x9, 1
-    .word 0x00231313  # slli x6, x6, 2
+    .word 0x00249313  # slli x6, x9, 2
     .word 0x00230333  # add x6, x6, x2
-    .word 0x02032303  # lw x6, 32(x6)
+    .word 0x02432303  # lw x6, 36(x6)
     .word 0x0068c2b3  # xor x5, x17, x6
     .word 0x01b2f533  # and x10, x5, x27
     .word 0x1f412303  # lw x6, 500(x2)
@@ -1058,10 +1049,9 @@ aes128_decrypt:
     .word 0x00259593  # slli x11, x11, 2
     .word 0x00b747b3  # xor x15, x14, x11
     .word 0x00050893  # addi x17, x10, 0
-    .word 0x00248313  # addi x6, x9, 2
-    .word 0x00231313  # slli x6, x6, 2
+    .word 0x00249313  # slli x6, x9, 2
     .word 0x00230333  # add x6, x6, x2
-    .word 0x02032303  # lw x6, 32(x6)
+    .word 0x02832303  # lw x6, 40(x6)
     .word 0x006942b3  # xor x5, x18, x6
     .word 0x01b2f533  # and x10, x5, x27
     .word 0x1f412303  # lw x6, 500(x2)
@@ -1073,10 +1063,9 @@ aes128_decrypt:
     .word 0x00b742b3  # xor x5, x14, x11
     .word 0x1c512a23  # sw x5, 468(x2)
     .word 0x00050913  # addi x18, x10, 0
-    .word 0x00348313  # addi x6, x9, 3
-    .word 0x00231313  # slli x6, x6, 2
+    .word 0x00249313  # slli x6, x9, 2
     .word 0x00230333  # add x6, x6, x2
-    .word 0x02032303  # lw x6, 32(x6)
+    .word 0x02c32303  # lw x6, 44(x6)
     .word 0x0069c2b3  # xor x5, x19, x6
     .word 0x01b2f533  # and x10, x5, x27
     .word 0x1f412303  # lw x6, 500(x2)
@@ -1088,10 +1077,9 @@ aes128_decrypt:
     .word 0x00b742b3  # xor x5, x14, x11
     .word 0x18512e23  # sw x5, 412(x2)
     .word 0x00050993  # addi x19, x10, 0
-    .word 0x00448313  # addi x6, x9, 4
-    .word 0x00231313  # slli x6, x6, 2
+    .word 0x00249313  # slli x6, x9, 2
     .word 0x00230333  # add x6, x6, x2
-    .word 0x02032303  # lw x6, 32(x6)
+    .word 0x03032303  # lw x6, 48(x6)
     .word 0x006a42b3  # xor x5, x20, x6
     .word 0x01b2f533  # and x10, x5, x27
     .word 0x1f412303  # lw x6, 500(x2)
@@ -1103,10 +1091,9 @@ aes128_decrypt:
     .word 0x00b742b3  # xor x5, x14, x11
     .word 0x1a512223  # sw x5, 420(x2)
     .word 0x00050a13  # addi x20, x10, 0
-    .word 0x00548313  # addi x6, x9, 5
-    .word 0x00231313  # slli x6, x6, 2
+    .word 0x00249313  # slli x6, x9, 2
     .word 0x00230333  # add x6, x6, x2
-    .word 0x02032303  # lw x6, 32(x6)
+    .word 0x03432303  # lw x6, 52(x6)
     .word 0x006ac2b3  # xor x5, x21, x6
     .word 0x01b2f533  # and x10, x5, x27
     .word 0x1f412303  # lw x6, 500(x2)
@@ -1118,10 +1105,9 @@ aes128_decrypt:
     .word 0x00b742b3  # xor x5, x14, x11
     .word 0x1c512223  # sw x5, 452(x2)
     .word 0x00050a93  # addi x21, x10, 0
-    .word 0x00648313  # addi x6, x9, 6
-    .word 0x00231313  # slli x6, x6, 2
+    .word 0x00249313  # slli x6, x9, 2
     .word 0x00230333  # add x6, x6, x2
-    .word 0x02032303  # lw x6, 32(x6)
+    .word 0x03832303  # lw x6, 56(x6)
     .word 0x006b42b3  # xor x5, x22, x6
     .word 0x01b2f533  # and x10, x5, x27
     .word 0x1f412303  # lw x6, 500(x2)
@@ -1133,10 +1119,9 @@ aes128_decrypt:
     .word 0x00b742b3  # xor x5, x14, x11
     .word 0x1c512423  # sw x5, 456(x2)
     .word 0x00050b13  # addi x22, x10, 0
-    .word 0x00748313  # addi x6, x9, 7
-    .word 0x00231313  # slli x6, x6, 2
+    .word 0x00249313  # slli x6, x9, 2
     .word 0x00230333  # add x6, x6, x2
-    .word 0x02032303  # lw x6, 32(x6)
+    .word 0x03c32303  # lw x6, 60(x6)
     .word 0x0066c2b3  # xor x5, x13, x6
     .word 0x01b2f533  # and x10, x5, x27
     .word 0x1f412303  # lw x6, 500(x2)
@@ -1423,7 +1408,7 @@ aes128_decrypt:
     .word 0x00455293  # srli x5, x10, 4
     .word 0x01a2f533  # and x10, x5, x26
     .word 0x00a5e6b3  # or x13, x11, x10
-    .word 0xf75fe06f  # jal x0, -4236
+    .word 0xfb1fe06f  # jal x0, -4176
     .word 0x00185293  # srli x5, x16, 1
     .word 0x0112c2b3  # xor x5, x5, x17
     .word 0x1e812303  # lw x6, 488(x2)

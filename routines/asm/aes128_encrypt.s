@@ -1,4 +1,4 @@
-# aes128_encrypt: made by factc function; 1163 words, 256 bytes of stack, profile 1
+# aes128_encrypt: made by factc 1.0.0 function; 1163 words, 256 bytes of stack, profile 1
     .option push
     .option norvc
     .option norelax

@@ -1,4 +1,4 @@
-# aes256_decrypt: made by factc function; 1729 words, 720 bytes of stack, profile 1
+# aes256_decrypt: made by factc 1.0.0 function; 1714 words, 720 bytes of stack, profile 1
     .option push
     .option norvc
     .option norelax
@@ -507,7 +507,7 @@ aes256_decrypt:
     .word 0x28c12283  # lw x5, 652(x2)
     .word 0x005332b3  # sltu x5, x6, x5
     .word 0x00029463  # bne x5, x0, 8
-    .word 0x0880106f  # jal x0, 4232
+    .word 0x04c0106f  # jal x0, 4172
     .word 0x00030413  # addi x8, x6, 0
     .word 0x00130313  # addi x6, x6, 1
     .word 0x28612423  # sw x6, 648(x2)
@@ -902,7 +902,7 @@ aes256_decrypt:
     .word 0x00080913  # addi x18, x16, 0
     .word 0x00050893  # addi x17, x10, 0
     .word 0x00d00313  # addi x6, x0, 13
-    .word 0x3c647063  # bgeu x8, x6, 960
+    .word 0x3a647063  # bgeu x8, x6, 928
     .word 0x00341493  # slli x9, x8, 3
     .word 0x00c55293  # srli x5, x10, 12
     .word 0x00f2f513  # andi x10, x5, 15
@@ -925,10 +925,9 @@ aes256_decrypt:
     .word 0x006542b3  # xor x5, x10, x6
     .word 0x27c12303  # lw x6, 636(x2)
     .word 0x0062f533  # and x10, x5, x6
-    .word 0x01048293  # addi x5, x9, 16
-    .word 0x00229293  # slli x5, x5, 2
+    .word 0x00249293  # slli x5, x9, 2
     .word 0x002282b3  # add x5, x5, x2
-    .word 0x02a2a823  # sw x10, 48(x5)
+    .word 0x06a2a823  # sw x10, 112(x5)
     .word 0x00050893  # addi x17, x10, 0
     .word 0x00341293  # slli x5, x8, 3
     .word 0x00128493  # addi x9, x5, 1
@@ -954,10 +953,9 @@ aes256_decrypt:
     .word 0x006542b3  # xor x5, x10, x6
     .word 0x27c12303  # lw x6, 636(x2)
     .word 0x0062f533  # and x10, x5, x6
-    .word 0x01048293  # addi x5, x9, 16
-    .word 0x00229293  # slli x5, x5, 2
+    .word 0x00249293  # slli x5, x9, 2
     .word 0x002282b3  # add x5, x5, x2
-    .word 0x02a2a823  # sw x10, 48(x5)
+    .word 0x06a2a823  # sw x10, 112(x5)
     .word 0x00050913  # addi x18, x10, 0
     .word 0x00341293  # slli x5, x8, 3
     .word 0x00228493  # addi x9, x5, 2
@@ -984,10 +982,9 @@ aes256_decrypt:
     .word 0x006542b3  # xor x5, x10, x6
     .word 0x27c12303  # lw x6, 636(x2)
     .word 0x0062f533  # and x10, x5, x6
-    .word 0x01048293  # addi x5, x9, 16
-    .word 0x00229293  # slli x5, x5, 2
+    .word 0x00249293  # slli x5, x9, 2
     .word 0x002282b3  # add x5, x5, x2
-    .word 0x02a2a823  # sw x10, 48(x5)
+    .word 0x06a2a823  # sw x10, 112(x5)
     .word 0x00050993  # addi x19, x10, 0
     .word 0x00341293  # slli x5, x8, 3
     .word 0x00328493  # addi x9, x5, 3
@@ -1013,10 +1010,9 @@ aes256_decrypt:
     .word 0x006542b3  # xor x5, x10, x6
     .word 0x27c12303  # lw x6, 636(x2)
     .word 0x0062f533  # and x10, x5, x6
-    .word 0x01048293  # addi x5, x9, 16
-    .word 0x00229293  # slli x5, x5, 2
+    .word 0x00249293  # slli x5, x9, 2
     .word 0x002282b3  # add x5, x5, x2
-    .word 0x02a2a823  # sw x10, 48(x5)
+    .word 0x06a2a823  # sw x10, 112(x5)
     .word 0x00050a13  # addi x20, x10, 0
     .word 0x00341293  # slli x5, x8, 3
     .word 0x00428493  # addi x9, x5, 4
@@ -1042,10 +1038,9 @@ aes256_decrypt:
     .word 0x006542b3  # xor x5, x10, x6
     .word 0x27c12303  # lw x6, 636(x2)
     .word 0x0062f533  # and x10, x5, x6
-    .word 0x01048293  # addi x5, x9, 16
-    .word 0x00229293  # slli x5, x5, 2
+    .word 0x00249293  # slli x5, x9, 2
     .word 0x002282b3  # add x5, x5, x2
-    .word 0x02a2a823  # sw x10, 48(x5)
+    .word 0x06a2a823  # sw x10, 112(x5)
     .word 0x00050a93  # addi x21, x10, 0
     .word 0x00341293  # slli x5, x8, 3
     .word 0x00528493  # addi x9, x5, 5
@@ -1072,10 +1067,9 @@ aes256_decrypt:
     .word 0x006542b3  # xor x5, x10, x6
     .word 0x27c12303  # lw x6, 636(x2)
     .word 0x0062f533  # and x10, x5, x6
-    .word 0x01048293  # addi x5, x9, 16
-    .word 0x00229293  # slli x5, x5, 2
+    .word 0x00249293  # slli x5, x9, 2
     .word 0x002282b3  # add x5, x5, x2
-    .word 0x02a2a823  # sw x10, 48(x5)
+    .word 0x06a2a823  # sw x10, 112(x5)
     .word 0x00050b13  # addi x22, x10, 0
     .word 0x00341293  # slli x5, x8, 3
     .word 0x00628493  # addi x9, x5, 6
@@ -1101,10 +1095,9 @@ aes256_decrypt:
     .word 0x006542b3  # xor x5, x10, x6
     .word 0x27c12303  # lw x6, 636(x2)
     .word 0x0062f533  # and x10, x5, x6
-    .word 0x01048293  # addi x5, x9, 16
-    .word 0x00229293  # slli x5, x5, 2
+    .word 0x00249293  # slli x5, x9, 2
     .word 0x002282b3  # add x5, x5, x2
-    .word 0x02a2a823  # sw x10, 48(x5)
+    .word 0x06a2a823  # sw x10, 112(x5)
     .word 0x00050b93  # addi x23, x10, 0
     .word 0x00341293  # slli x5, x8, 3
     .word 0x00728493  # addi x9, x5, 7
@@ -1130,10 +1123,9 @@ aes256_decrypt:
     .word 0x006542b3  # xor x5, x10, x6
     .word 0x27c12303  # lw x6, 636(x2)
     .word 0x0062f533  # and x10, x5, x6
-    .word 0x01048293  # addi x5, x9, 16
-    .word 0x00229293  # slli x5, x5, 2
+    .word 0x00249293  # slli x5, x9, 2
     .word 0x002282b3  # add x5, x5, x2
-    .word 0x02a2a823  # sw x10, 48(x5)
+    .word 0x06a2a823  # sw x10, 112(x5)
     .word 0x00050713  # addi x14, x10, 0
     .word 0x00147293  # andi x5, x8, 1
     .word 0x00100313  # addi x6, x0, 1
@@ -1141,7 +1133,7 @@ aes256_decrypt:
     .word 0x21012283  # lw x5, 528(x2)
     .word 0x00129293  # slli x5, x5, 1
     .word 0x20512823  # sw x5, 528(x2)
-    .word 0x69c0006f  # jal x0, 1692
+    .word 0x6800006f  # jal x0, 1664
     .word 0x00088513  # addi x10, x17, 0
     .word 0x00090593  # addi x11, x18, 0
     .word 0x00098793  # addi x15, x19, 0
@@ -1185,10 +1177,9 @@ aes256_decrypt:
     .word 0x00259593  # slli x11, x11, 2
     .word 0x00b7c6b3  # xor x13, x15, x11
     .word 0x00050893  # addi x17, x10, 0
-    .word 0x00148313  # addi x6, x9, 1
-    .word 0x00231313  # slli x6, x6, 2
+    .word 0x00249313  # slli x6, x9, 2
     .word 0x00230333  # add x6, x6, x2
-    .word 0x03032303  # lw x6, 48(x6)
+    .word 0x03432303  # lw x6, 52(x6)
     .word 0x006942b3  # xor x5, x18, x6
     .word 0x27c12303  # lw x6, 636(x2)
     .word 0x0062f533  # and x10, x5, x6
@@ -1200,10 +1191,9 @@ aes256_decrypt:
     .word 0x00259593  # slli x11, x11, 2
     .word 0x00b7c833  # xor x16, x15, x11
     .word 0x00050913  # addi x18, x10, 0
-    .word 0x00248313  # addi x6, x9, 2
-    .word 0x00231313  # slli x6, x6, 2
+    .word 0x00249313  # slli x6, x9, 2
     .word 0x00230333  # add x6, x6, x2
-    .word 0x03032303  # lw x6, 48(x6)
+    .word 0x03832303  # lw x6, 56(x6)
     .word 0x0069c2b3  # xor x5, x19, x6
     .word 0x27c12303  # lw x6, 636(x2)
     .word 0x0062f533  # and x10, x5, x6
@@ -1215,10 +1205,9 @@ aes256_decrypt:
     .word 0x00259593  # slli x11, x11, 2
     .word 0x00b7c633  # xor x12, x15, x11
     .word 0x00050993  # addi x19, x10, 0
-    .word 0x00348313  # addi x6, x9, 3
-    .word 0x00231313  # slli x6, x6, 2
+    .word 0x00249313  # slli x6, x9, 2
     .word 0x00230333  # add x6, x6, x2
-    .word 0x03032303  # lw x6, 48(x6)
+    .word 0x03c32303  # lw x6, 60(x6)
     .word 0x006a42b3  # xor x5, x20, x6
     .word 0x27c12303  # lw x6, 636(x2)
     .word 0x0062f533  # and x10, x5, x6
@@ -1231,10 +1220,9 @@ aes256_decrypt:
     .word 0x00b7c2b3  # xor x5, x15, x11
     .word 0x22512423  # sw x5, 552(x2)
     .word 0x00050a13  # addi x20, x10, 0
-    .word 0x00448313  # addi x6, x9, 4
-    .word 0x00231313  # slli x6, x6, 2
+    .word 0x00249313  # slli x6, x9, 2
     .word 0x00230333  # add x6, x6, x2
-    .word 0x03032303  # lw x6, 48(x6)
+    .word 0x04032303  # lw x6, 64(x6)
     .word 0x006ac2b3  # xor x5, x21, x6
     .word 0x27c12303  # lw x6, 636(x2)
     .word 0x0062f533  # and x10, x5, x6
@@ -1247,10 +1235,9 @@ aes256_decrypt:
     .word 0x00b7c2b3  # xor x5, x15, x11
     .word 0x22512823  # sw x5, 560(x2)
     .word 0x00050a93  # addi x21, x10, 0
-    .word 0x00548313  # addi x6, x9, 5
-    .word 0x00231313  # slli x6, x6, 2
+    .word 0x00249313  # slli x6, x9, 2
     .word 0x00230333  # add x6, x6, x2
-    .word 0x03032303  # lw x6, 48(x6)
+    .word 0x04432303  # lw x6, 68(x6)
     .word 0x006b42b3  # xor x5, x22, x6
     .word 0x27c12303  # lw x6, 636(x2)
     .word 0x0062f533  # and x10, x5, x6
@@ -1263,10 +1250,9 @@ aes256_decrypt:
     .word 0x00b7c2b3  # xor x5, x15, x11
     .word 0x24512823  # sw x5, 592(x2)
     .word 0x00050b13  # addi x22, x10, 0
-    .word 0x00648313  # addi x6, x9, 6
-    .word 0x00231313  # slli x6, x6, 2
+    .word 0x00249313  # slli x6, x9, 2
     .word 0x00230333  # add x6, x6, x2
-    .word 0x03032303  # lw x6, 48(x6)
+    .word 0x04832303  # lw x6, 72(x6)
     .word 0x006bc2b3  # xor x5, x23, x6
     .word 0x27c12303  # lw x6, 636(x2)
     .word 0x0062f533  # and x10, x5, x6
@@ -1279,10 +1265,9 @@ aes256_decrypt:
     .word 0x00b7c2b3  # xor x5, x15, x11
     .word 0x24512a23  # sw x5, 596(x2)
     .word 0x00050b93  # addi x23, x10, 0
-    .word 0x00748313  # addi x6, x9, 7
-    .word 0x00231313  # slli x6, x6, 2
+    .word 0x00249313  # slli x6, x9, 2
     .word 0x00230333  # add x6, x6, x2
-    .word 0x03032303  # lw x6, 48(x6)
+    .word 0x04c32303  # lw x6, 76(x6)
     .word 0x006742b3  # xor x5, x14, x6
     .word 0x27c12303  # lw x6, 636(x2)
     .word 0x0062f533  # and x10, x5, x6
@@ -1564,7 +1549,7 @@ aes256_decrypt:
     .word 0x00455293  # srli x5, x10, 4
     .word 0x01b2f533  # and x10, x5, x27
     .word 0x00a5e733  # or x14, x11, x10
-    .word 0xf6dfe06f  # jal x0, -4244
+    .word 0xfa9fe06f  # jal x0, -4184
     .word 0x0018d293  # srli x5, x17, 1
     .word 0x0122c2b3  # xor x5, x5, x18
     .word 0x27012303  # lw x6, 624(x2)

@@ -1,4 +1,4 @@
-# aes256_encrypt: made by factc function; 1403 words, 304 bytes of stack, profile 1
+# aes256_encrypt: made by factc 1.0.0 function; 1403 words, 304 bytes of stack, profile 1
     .option push
     .option norvc
     .option norelax

@@ -1,4 +1,4 @@
-# ascon_aead128_decrypt: made by factc function; 1633 words, 336 bytes of stack, profile 1
+# ascon_aead128_decrypt: made by factc 1.0.0 function; 1633 words, 336 bytes of stack, profile 1
     .option push
     .option norvc
     .option norelax

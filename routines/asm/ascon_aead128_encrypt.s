@@ -1,4 +1,4 @@
-# ascon_aead128_encrypt: made by factc function; 1138 words, 336 bytes of stack, profile 1
+# ascon_aead128_encrypt: made by factc 1.0.0 function; 1138 words, 336 bytes of stack, profile 1
     .option push
     .option norvc
     .option norelax

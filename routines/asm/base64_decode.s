@@ -1,4 +1,4 @@
-# base64_decode: made by factc 1.0.0 function; 564 words, 176 bytes of stack, profile 1
+# base64_decode: made by factc 1.0.0 function; 559 words, 176 bytes of stack, profile 1
     .option push
     .option norvc
     .option norelax
@@ -131,7 +131,7 @@ base64_decode:
     .word 0x00000613  # addi x12, x0, 0
     .word 0x00000693  # addi x13, x0, 0
     .word 0x00269293  # slli x5, x13, 2
-    .word 0x5892f263  # bgeu x5, x9, 1412
+    .word 0x5692f863  # bgeu x5, x9, 1392
     .word 0x0015b313  # sltiu x6, x11, 1
     .word 0x00657533  # and x10, x10, x6
     .word 0x00269293  # slli x5, x13, 2
@@ -211,9 +211,8 @@ base64_decode:
     .word 0x00554533  # xor x10, x10, x5
     .word 0x03f87713  # andi x14, x16, 63
     .word 0x00269293  # slli x5, x13, 2
-    .word 0x00128293  # addi x5, x5, 1
     .word 0x002287b3  # add x15, x5, x2
-    .word 0x0007c783  # lbu x15, 0(x15)
+    .word 0x0017c783  # lbu x15, 1(x15)
     .word 0x0ff00813  # addi x16, x0, 255
     .word 0xfbf78293  # addi x5, x15, -65
     .word 0x0ff2f293  # andi x5, x5, 255
@@ -290,9 +289,8 @@ base64_decode:
     .word 0x03f87313  # andi x6, x16, 63
     .word 0x0062e733  # or x14, x5, x6
     .word 0x00269293  # slli x5, x13, 2
-    .word 0x00228293  # addi x5, x5, 2
     .word 0x002287b3  # add x15, x5, x2
-    .word 0x0007c783  # lbu x15, 0(x15)
+    .word 0x0027c783  # lbu x15, 2(x15)
     .word 0x0ff00813  # addi x16, x0, 255
     .word 0xfbf78293  # addi x5, x15, -65
     .word 0x0ff2f293  # andi x5, x5, 255
@@ -370,9 +368,8 @@ base64_decode:
     .word 0x03f87313  # andi x6, x16, 63
     .word 0x0062e733  # or x14, x5, x6
     .word 0x00269293  # slli x5, x13, 2
-    .word 0x00328293  # addi x5, x5, 3
     .word 0x002287b3  # add x15, x5, x2
-    .word 0x0007c783  # lbu x15, 0(x15)
+    .word 0x0037c783  # lbu x15, 3(x15)
     .word 0x0ff00813  # addi x16, x0, 255
     .word 0xfbf78293  # addi x5, x15, -65
     .word 0x0ff2f293  # andi x5, x5, 255
@@ -475,18 +472,16 @@ base64_decode:
     .word 0x04628223  # sb x6, 68(x5)
     .word 0x00300293  # addi x5, x0, 3
     .word 0x02d282b3  # mul x5, x5, x13
-    .word 0x00128293  # addi x5, x5, 1
     .word 0x00875313  # srli x6, x14, 8
     .word 0x002282b3  # add x5, x5, x2
-    .word 0x04628223  # sb x6, 68(x5)
+    .word 0x046282a3  # sb x6, 69(x5)
     .word 0x00300293  # addi x5, x0, 3
     .word 0x02d282b3  # mul x5, x5, x13
-    .word 0x00228293  # addi x5, x5, 2
     .word 0x002282b3  # add x5, x5, x2
-    .word 0x04e28223  # sb x14, 68(x5)
+    .word 0x04e28323  # sb x14, 70(x5)
     .word 0x00168693  # addi x13, x13, 1
     .word 0x0106b293  # sltiu x5, x13, 16
-    .word 0xa60298e3  # bne x5, x0, -1424
+    .word 0xa80292e3  # bne x5, x0, -1404
     .word 0xfff68693  # addi x13, x13, -1
     .word 0x0ff00393  # addi x7, x0, 255
     .word 0x40a002b3  # sub x5, x0, x10

@@ -1,4 +1,4 @@
-# base64_encode: made by factc function; 470 words, 144 bytes of stack, profile 1
+# base64_encode: made by factc 1.0.0 function; 454 words, 144 bytes of stack, profile 1
     .option push
     .option norvc
     .option norelax
@@ -120,22 +120,20 @@ base64_encode:
     .word 0x00600293  # addi x5, x0, 6
     .word 0x02a285b3  # mul x11, x5, x10
     .word 0x00351613  # slli x12, x10, 3
-    .word 0x1e95fa63  # bgeu x11, x9, 500
+    .word 0x1e95f063  # bgeu x11, x9, 480
     .word 0x002582b3  # add x5, x11, x2
     .word 0x0002c283  # lbu x5, 0(x5)
     .word 0x01029693  # slli x13, x5, 16
     .word 0x00158293  # addi x5, x11, 1
-    .word 0x0092fc63  # bgeu x5, x9, 24
-    .word 0x00158313  # addi x6, x11, 1
-    .word 0x00230333  # add x6, x6, x2
-    .word 0x00034303  # lbu x6, 0(x6)
+    .word 0x0092fa63  # bgeu x5, x9, 20
+    .word 0x00258333  # add x6, x11, x2
+    .word 0x00134303  # lbu x6, 1(x6)
     .word 0x00831313  # slli x6, x6, 8
     .word 0x0066e6b3  # or x13, x13, x6
     .word 0x00258293  # addi x5, x11, 2
-    .word 0x0092fa63  # bgeu x5, x9, 20
-    .word 0x00258313  # addi x6, x11, 2
-    .word 0x00230333  # add x6, x6, x2
-    .word 0x00034303  # lbu x6, 0(x6)
+    .word 0x0092f863  # bgeu x5, x9, 16
+    .word 0x00258333  # add x6, x11, x2
+    .word 0x00234303  # lbu x6, 2(x6)
     .word 0x0066e6b3  # or x13, x13, x6
     .word 0x0126d713  # srli x14, x13, 18
     .word 0x04170793  # addi x15, x14, 65
@@ -184,9 +182,8 @@ base64_encode:
     .word 0x006787b3  # add x15, x15, x6
     .word 0x002602b3  # add x5, x12, x2
     .word 0x03028a23  # sb x16, 52(x5)
-    .word 0x00160293  # addi x5, x12, 1
-    .word 0x002282b3  # add x5, x5, x2
-    .word 0x02f28a23  # sb x15, 52(x5)
+    .word 0x002602b3  # add x5, x12, x2
+    .word 0x02f28aa3  # sb x15, 53(x5)
     .word 0x0066d293  # srli x5, x13, 6
     .word 0x03f2f713  # andi x14, x5, 63
     .word 0x04170793  # addi x15, x14, 65
@@ -213,9 +210,8 @@ base64_encode:
     .word 0x00258313  # addi x6, x11, 2
     .word 0x0064f463  # bgeu x9, x6, 8
     .word 0x03d00793  # addi x15, x0, 61
-    .word 0x00260293  # addi x5, x12, 2
-    .word 0x002282b3  # add x5, x5, x2
-    .word 0x02f28a23  # sb x15, 52(x5)
+    .word 0x002602b3  # add x5, x12, x2
+    .word 0x02f28b23  # sb x15, 54(x5)
     .word 0x03f6f793  # andi x15, x13, 63
     .word 0x04178693  # addi x13, x15, 65
     .word 0x01a7b313  # sltiu x6, x15, 26
@@ -241,46 +237,40 @@ base64_encode:
     .word 0x00358313  # addi x6, x11, 3
     .word 0x0064f463  # bgeu x9, x6, 8
     .word 0x03d00793  # addi x15, x0, 61
-    .word 0x00360293  # addi x5, x12, 3
-    .word 0x002282b3  # add x5, x5, x2
-    .word 0x02f28a23  # sb x15, 52(x5)
-    .word 0x0400006f  # jal x0, 64
+    .word 0x002602b3  # add x5, x12, x2
+    .word 0x02f28ba3  # sb x15, 55(x5)
+    .word 0x0340006f  # jal x0, 52
     .word 0x00000313  # addi x6, x0, 0
     .word 0x002602b3  # add x5, x12, x2
     .word 0x02628a23  # sb x6, 52(x5)
-    .word 0x00160293  # addi x5, x12, 1
     .word 0x00000313  # addi x6, x0, 0
-    .word 0x002282b3  # add x5, x5, x2
-    .word 0x02628a23  # sb x6, 52(x5)
-    .word 0x00260293  # addi x5, x12, 2
+    .word 0x002602b3  # add x5, x12, x2
+    .word 0x02628aa3  # sb x6, 53(x5)
     .word 0x00000313  # addi x6, x0, 0
-    .word 0x002282b3  # add x5, x5, x2
-    .word 0x02628a23  # sb x6, 52(x5)
-    .word 0x00360293  # addi x5, x12, 3
+    .word 0x002602b3  # add x5, x12, x2
+    .word 0x02628b23  # sb x6, 54(x5)
     .word 0x00000313  # addi x6, x0, 0
-    .word 0x002282b3  # add x5, x5, x2
-    .word 0x02628a23  # sb x6, 52(x5)
+    .word 0x002602b3  # add x5, x12, x2
+    .word 0x02628ba3  # sb x6, 55(x5)
     .word 0x00600293  # addi x5, x0, 6
     .word 0x02a282b3  # mul x5, x5, x10
     .word 0x00328593  # addi x11, x5, 3
     .word 0x00351293  # slli x5, x10, 3
     .word 0x00428613  # addi x12, x5, 4
-    .word 0x1e95fa63  # bgeu x11, x9, 500
+    .word 0x1e95f063  # bgeu x11, x9, 480
     .word 0x002582b3  # add x5, x11, x2
     .word 0x0002c283  # lbu x5, 0(x5)
     .word 0x01029693  # slli x13, x5, 16
     .word 0x00158293  # addi x5, x11, 1
-    .word 0x0092fc63  # bgeu x5, x9, 24
-    .word 0x00158313  # addi x6, x11, 1
-    .word 0x00230333  # add x6, x6, x2
-    .word 0x00034303  # lbu x6, 0(x6)
+    .word 0x0092fa63  # bgeu x5, x9, 20
+    .word 0x00258333  # add x6, x11, x2
+    .word 0x00134303  # lbu x6, 1(x6)
     .word 0x00831313  # slli x6, x6, 8
     .word 0x0066e6b3  # or x13, x13, x6
     .word 0x00258293  # addi x5, x11, 2
-    .word 0x0092fa63  # bgeu x5, x9, 20
-    .word 0x00258313  # addi x6, x11, 2
-    .word 0x00230333  # add x6, x6, x2
-    .word 0x00034303  # lbu x6, 0(x6)
+    .word 0x0092f863  # bgeu x5, x9, 16
+    .word 0x00258333  # add x6, x11, x2
+    .word 0x00234303  # lbu x6, 2(x6)
     .word 0x0066e6b3  # or x13, x13, x6
     .word 0x0126d713  # srli x14, x13, 18
     .word 0x04170793  # addi x15, x14, 65
@@ -329,9 +319,8 @@ base64_encode:
     .word 0x006787b3  # add x15, x15, x6
     .word 0x002602b3  # add x5, x12, x2
     .word 0x03028a23  # sb x16, 52(x5)
-    .word 0x00160293  # addi x5, x12, 1
-    .word 0x002282b3  # add x5, x5, x2
-    .word 0x02f28a23  # sb x15, 52(x5)
+    .word 0x002602b3  # add x5, x12, x2
+    .word 0x02f28aa3  # sb x15, 53(x5)
     .word 0x0066d293  # srli x5, x13, 6
     .word 0x03f2f713  # andi x14, x5, 63
     .word 0x04170793  # addi x15, x14, 65
@@ -358,9 +347,8 @@ base64_encode:
     .word 0x00258313  # addi x6, x11, 2
     .word 0x0064f463  # bgeu x9, x6, 8
     .word 0x03d00793  # addi x15, x0, 61
-    .word 0x00260293  # addi x5, x12, 2
-    .word 0x002282b3  # add x5, x5, x2
-    .word 0x02f28a23  # sb x15, 52(x5)
+    .word 0x002602b3  # add x5, x12, x2
+    .word 0x02f28b23  # sb x15, 54(x5)
     .word 0x03f6f793  # andi x15, x13, 63
     .word 0x04178693  # addi x13, x15, 65
     .word 0x01a7b313  # sltiu x6, x15, 26
@@ -386,28 +374,24 @@ base64_encode:
     .word 0x00358313  # addi x6, x11, 3
     .word 0x0064f463  # bgeu x9, x6, 8
     .word 0x03d00793  # addi x15, x0, 61
-    .word 0x00360293  # addi x5, x12, 3
-    .word 0x002282b3  # add x5, x5, x2
-    .word 0x02f28a23  # sb x15, 52(x5)
-    .word 0x0400006f  # jal x0, 64
+    .word 0x002602b3  # add x5, x12, x2
+    .word 0x02f28ba3  # sb x15, 55(x5)
+    .word 0x0340006f  # jal x0, 52
     .word 0x00000313  # addi x6, x0, 0
     .word 0x002602b3  # add x5, x12, x2
     .word 0x02628a23  # sb x6, 52(x5)
-    .word 0x00160293  # addi x5, x12, 1
     .word 0x00000313  # addi x6, x0, 0
-    .word 0x002282b3  # add x5, x5, x2
-    .word 0x02628a23  # sb x6, 52(x5)
-    .word 0x00260293  # addi x5, x12, 2
+    .word 0x002602b3  # add x5, x12, x2
+    .word 0x02628aa3  # sb x6, 53(x5)
     .word 0x00000313  # addi x6, x0, 0
-    .word 0x002282b3  # add x5, x5, x2
-    .word 0x02628a23  # sb x6, 52(x5)
-    .word 0x00360293  # addi x5, x12, 3
+    .word 0x002602b3  # add x5, x12, x2
+    .word 0x02628b23  # sb x6, 54(x5)
     .word 0x00000313  # addi x6, x0, 0
-    .word 0x002282b3  # add x5, x5, x2
-    .word 0x02628a23  # sb x6, 52(x5)
+    .word 0x002602b3  # add x5, x12, x2
+    .word 0x02628ba3  # sb x6, 55(x5)
     .word 0x00150513  # addi x10, x10, 1
     .word 0x00853293  # sltiu x5, x10, 8
-    .word 0xb6029ce3  # bne x5, x0, -1160
+    .word 0xba029ce3  # bne x5, x0, -1096
     .word 0xfff50513  # addi x10, x10, -1
     # the result
     .word 0x00000513  # addi x10, x0, 0

@@ -1,4 +1,4 @@
-# chacha20_block: made by factc function; 791 words, 240 bytes of stack, profile 1
+# chacha20_block: made by factc 1.0.0 function; 791 words, 240 bytes of stack, profile 1
     .option push
     .option norvc
     .option norelax

@@ -1,4 +1,4 @@
-# compare_32: made by factc function; 346 words, 96 bytes of stack, profile 1
+# compare_32: made by factc 1.0.0 function; 346 words, 96 bytes of stack, profile 1
     .option push
     .option norvc
     .option norelax

@@ -1,4 +1,4 @@
-# copy_if_32: made by factc function; 381 words, 96 bytes of stack, profile 1
+# copy_if_32: made by factc 1.0.0 function; 381 words, 96 bytes of stack, profile 1
     .option push
     .option norvc
     .option norelax

@@ -1,4 +1,4 @@
-# crc32: made by factc function; 151 words, 112 bytes of stack, profile 1
+# crc32: made by factc 1.0.0 function; 151 words, 112 bytes of stack, profile 1
     .option push
     .option norvc
     .option norelax

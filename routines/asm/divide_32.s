@@ -1,4 +1,4 @@
-# divide_32: made by factc function; 437 words, 64 bytes of stack, profile 1
+# divide_32: made by factc 1.0.0 function; 437 words, 64 bytes of stack, profile 1
     .option push
     .option norvc
     .option norelax

@@ -1,4 +1,4 @@
-# ed25519_multiply_add: made by factc function; 2563 words, 544 bytes of stack, profile 1
+# ed25519_multiply_add: made by factc 1.0.0 function; 2542 words, 544 bytes of stack, profile 1
     .option push
     .option norvc
     .option norelax
@@ -710,7 +710,7 @@ ed25519_multiply_add:
     .word 0x1dc12283  # lw x5, 476(x2)
     .word 0x005332b3  # sltu x5, x6, x5
     .word 0x00029463  # bne x5, x0, 8
-    .word 0x02d0106f  # jal x0, 6188
+    .word 0x7d80106f  # jal x0, 6104
     .word 0x18612023  # sw x6, 384(x2)
     .word 0x00130313  # addi x6, x6, 1
     .word 0x1c612c23  # sw x6, 472(x2)
@@ -747,77 +747,63 @@ ed25519_multiply_add:
     .word 0x002b8bb3  # add x23, x23, x2
     .word 0x080bab83  # lw x23, 128(x23)
     .word 0x18812283  # lw x5, 392(x2)
-    .word 0x00128293  # addi x5, x5, 1
     .word 0x00229813  # slli x16, x5, 2
     .word 0x00280833  # add x16, x16, x2
-    .word 0x08082803  # lw x16, 128(x16)
+    .word 0x08482803  # lw x16, 132(x16)
     .word 0x18412283  # lw x5, 388(x2)
-    .word 0x00128293  # addi x5, x5, 1
     .word 0x00229c13  # slli x24, x5, 2
     .word 0x002c0c33  # add x24, x24, x2
-    .word 0x080c2c03  # lw x24, 128(x24)
+    .word 0x084c2c03  # lw x24, 132(x24)
     .word 0x18812283  # lw x5, 392(x2)
-    .word 0x00228293  # addi x5, x5, 2
     .word 0x00229893  # slli x17, x5, 2
     .word 0x002888b3  # add x17, x17, x2
-    .word 0x0808a883  # lw x17, 128(x17)
+    .word 0x0888a883  # lw x17, 136(x17)
     .word 0x18412283  # lw x5, 388(x2)
-    .word 0x00228293  # addi x5, x5, 2
     .word 0x00229c93  # slli x25, x5, 2
     .word 0x002c8cb3  # add x25, x25, x2
-    .word 0x080cac83  # lw x25, 128(x25)
+    .word 0x088cac83  # lw x25, 136(x25)
     .word 0x18812283  # lw x5, 392(x2)
-    .word 0x00328293  # addi x5, x5, 3
     .word 0x00229913  # slli x18, x5, 2
     .word 0x00290933  # add x18, x18, x2
-    .word 0x08092903  # lw x18, 128(x18)
+    .word 0x08c92903  # lw x18, 140(x18)
     .word 0x18412283  # lw x5, 388(x2)
-    .word 0x00328293  # addi x5, x5, 3
     .word 0x00229d13  # slli x26, x5, 2
     .word 0x002d0d33  # add x26, x26, x2
-    .word 0x080d2d03  # lw x26, 128(x26)
+    .word 0x08cd2d03  # lw x26, 140(x26)
     .word 0x18812283  # lw x5, 392(x2)
-    .word 0x00428293  # addi x5, x5, 4
     .word 0x00229993  # slli x19, x5, 2
     .word 0x002989b3  # add x19, x19, x2
-    .word 0x0809a983  # lw x19, 128(x19)
+    .word 0x0909a983  # lw x19, 144(x19)
     .word 0x18412283  # lw x5, 388(x2)
-    .word 0x00428293  # addi x5, x5, 4
     .word 0x00229d93  # slli x27, x5, 2
     .word 0x002d8db3  # add x27, x27, x2
-    .word 0x080dad83  # lw x27, 128(x27)
+    .word 0x090dad83  # lw x27, 144(x27)
     .word 0x18812283  # lw x5, 392(x2)
-    .word 0x00528293  # addi x5, x5, 5
     .word 0x00229a13  # slli x20, x5, 2
     .word 0x002a0a33  # add x20, x20, x2
-    .word 0x080a2a03  # lw x20, 128(x20)
+    .word 0x094a2a03  # lw x20, 148(x20)
     .word 0x18412283  # lw x5, 388(x2)
-    .word 0x00528293  # addi x5, x5, 5
     .word 0x00229293  # slli x5, x5, 2
     .word 0x002282b3  # add x5, x5, x2
-    .word 0x0802a283  # lw x5, 128(x5)
+    .word 0x0942a283  # lw x5, 148(x5)
     .word 0x1a512223  # sw x5, 420(x2)
     .word 0x18812283  # lw x5, 392(x2)
-    .word 0x00628293  # addi x5, x5, 6
     .word 0x00229a93  # slli x21, x5, 2
     .word 0x002a8ab3  # add x21, x21, x2
-    .word 0x080aaa83  # lw x21, 128(x21)
+    .word 0x098aaa83  # lw x21, 152(x21)
     .word 0x18412283  # lw x5, 388(x2)
-    .word 0x00628293  # addi x5, x5, 6
     .word 0x00229293  # slli x5, x5, 2
     .word 0x002282b3  # add x5, x5, x2
-    .word 0x0802a283  # lw x5, 128(x5)
+    .word 0x0982a283  # lw x5, 152(x5)
     .word 0x1a512423  # sw x5, 424(x2)
     .word 0x18812283  # lw x5, 392(x2)
-    .word 0x00728293  # addi x5, x5, 7
     .word 0x00229b13  # slli x22, x5, 2
     .word 0x002b0b33  # add x22, x22, x2
-    .word 0x080b2b03  # lw x22, 128(x22)
+    .word 0x09cb2b03  # lw x22, 156(x22)
     .word 0x18412283  # lw x5, 388(x2)
-    .word 0x00728293  # addi x5, x5, 7
     .word 0x00229293  # slli x5, x5, 2
     .word 0x002282b3  # add x5, x5, x2
-    .word 0x0802a283  # lw x5, 128(x5)
+    .word 0x09c2a283  # lw x5, 156(x5)
     .word 0x1a512623  # sw x5, 428(x2)
     .word 0x03770633  # mul x12, x14, x23
     .word 0x037736b3  # mulhu x13, x14, x23
@@ -2186,7 +2172,6 @@ ed25519_multiply_add:
     .word 0x002282b3  # add x5, x5, x2
     .word 0x0862a023  # sw x6, 128(x5)
     .word 0x18812283  # lw x5, 392(x2)
-    .word 0x00128293  # addi x5, x5, 1
     .word 0x18c12303  # lw x6, 396(x2)
     .word 0x40600333  # sub x6, x0, x6
     .word 0x00cc43b3  # xor x7, x24, x12
@@ -2194,9 +2179,8 @@ ed25519_multiply_add:
     .word 0x00764333  # xor x6, x12, x7
     .word 0x00229293  # slli x5, x5, 2
     .word 0x002282b3  # add x5, x5, x2
-    .word 0x0862a023  # sw x6, 128(x5)
+    .word 0x0862a223  # sw x6, 132(x5)
     .word 0x18812283  # lw x5, 392(x2)
-    .word 0x00228293  # addi x5, x5, 2
     .word 0x18c12303  # lw x6, 396(x2)
     .word 0x40600333  # sub x6, x0, x6
     .word 0x00ecc3b3  # xor x7, x25, x14
@@ -2204,9 +2188,8 @@ ed25519_multiply_add:
     .word 0x00774333  # xor x6, x14, x7
     .word 0x00229293  # slli x5, x5, 2
     .word 0x002282b3  # add x5, x5, x2
-    .word 0x0862a023  # sw x6, 128(x5)
+    .word 0x0862a423  # sw x6, 136(x5)
     .word 0x18812283  # lw x5, 392(x2)
-    .word 0x00328293  # addi x5, x5, 3
     .word 0x18c12303  # lw x6, 396(x2)
     .word 0x40600333  # sub x6, x0, x6
     .word 0x0119c3b3  # xor x7, x19, x17
@@ -2214,9 +2197,8 @@ ed25519_multiply_add:
     .word 0x0078c333  # xor x6, x17, x7
     .word 0x00229293  # slli x5, x5, 2
     .word 0x002282b3  # add x5, x5, x2
-    .word 0x0862a023  # sw x6, 128(x5)
+    .word 0x0862a623  # sw x6, 140(x5)
     .word 0x18812283  # lw x5, 392(x2)
-    .word 0x00428293  # addi x5, x5, 4
     .word 0x18c12303  # lw x6, 396(x2)
     .word 0x40600333  # sub x6, x0, x6
     .word 0x016a43b3  # xor x7, x20, x22
@@ -2224,9 +2206,8 @@ ed25519_multiply_add:
     .word 0x007b4333  # xor x6, x22, x7
     .word 0x00229293  # slli x5, x5, 2
     .word 0x002282b3  # add x5, x5, x2
-    .word 0x0862a023  # sw x6, 128(x5)
+    .word 0x0862a823  # sw x6, 144(x5)
     .word 0x18812283  # lw x5, 392(x2)
-    .word 0x00528293  # addi x5, x5, 5
     .word 0x18c12303  # lw x6, 396(x2)
     .word 0x40600333  # sub x6, x0, x6
     .word 0x01aac3b3  # xor x7, x21, x26
@@ -2234,9 +2215,8 @@ ed25519_multiply_add:
     .word 0x007d4333  # xor x6, x26, x7
     .word 0x00229293  # slli x5, x5, 2
     .word 0x002282b3  # add x5, x5, x2
-    .word 0x0862a023  # sw x6, 128(x5)
+    .word 0x0862aa23  # sw x6, 148(x5)
     .word 0x18812283  # lw x5, 392(x2)
-    .word 0x00628293  # addi x5, x5, 6
     .word 0x18c12303  # lw x6, 396(x2)
     .word 0x40600333  # sub x6, x0, x6
     .word 0x01b7c3b3  # xor x7, x15, x27
@@ -2244,9 +2224,8 @@ ed25519_multiply_add:
     .word 0x007dc333  # xor x6, x27, x7
     .word 0x00229293  # slli x5, x5, 2
     .word 0x002282b3  # add x5, x5, x2
-    .word 0x0862a023  # sw x6, 128(x5)
+    .word 0x0862ac23  # sw x6, 152(x5)
     .word 0x18812283  # lw x5, 392(x2)
-    .word 0x00728293  # addi x5, x5, 7
     .word 0x18c12303  # lw x6, 396(x2)
     .word 0x1a412403  # lw x8, 420(x2)
     .word 0x40600333  # sub x6, x0, x6
@@ -2255,8 +2234,8 @@ ed25519_multiply_add:
     .word 0x00744333  # xor x6, x8, x7
     .word 0x00229293  # slli x5, x5, 2
     .word 0x002282b3  # add x5, x5, x2
-    .word 0x0862a023  # sw x6, 128(x5)
-    .word 0xfc8fe06f  # jal x0, -6200
+    .word 0x0862ae23  # sw x6, 156(x5)
+    .word 0x81dfe06f  # jal x0, -6116
     .word 0x08012283  # lw x5, 128(x2)
     .word 0x0a012303  # lw x6, 160(x2)
     .word 0x00628533  # add x10, x5, x6

@@ -1,4 +1,4 @@
-# ed25519_reduce: made by factc function; 2172 words, 512 bytes of stack, profile 1
+# ed25519_reduce: made by factc 1.0.0 function; 2151 words, 512 bytes of stack, profile 1
     .option push
     .option norvc
     .option norelax
@@ -361,7 +361,7 @@ ed25519_reduce:
     .word 0x1bc12283  # lw x5, 444(x2)
     .word 0x005332b3  # sltu x5, x6, x5
     .word 0x00029463  # bne x5, x0, 8
-    .word 0x7a80106f  # jal x0, 6056
+    .word 0x7540106f  # jal x0, 5972
     .word 0x16612023  # sw x6, 352(x2)
     .word 0x00130313  # addi x6, x6, 1
     .word 0x1a612c23  # sw x6, 440(x2)
@@ -384,76 +384,62 @@ ed25519_reduce:
     .word 0x002b0b33  # add x22, x22, x2
     .word 0x060b2b03  # lw x22, 96(x22)
     .word 0x16812283  # lw x5, 360(x2)
-    .word 0x00128293  # addi x5, x5, 1
     .word 0x00229793  # slli x15, x5, 2
     .word 0x002787b3  # add x15, x15, x2
-    .word 0x0607a783  # lw x15, 96(x15)
+    .word 0x0647a783  # lw x15, 100(x15)
     .word 0x16c12283  # lw x5, 364(x2)
-    .word 0x00128293  # addi x5, x5, 1
     .word 0x00229b93  # slli x23, x5, 2
     .word 0x002b8bb3  # add x23, x23, x2
-    .word 0x060bab83  # lw x23, 96(x23)
+    .word 0x064bab83  # lw x23, 100(x23)
     .word 0x16812283  # lw x5, 360(x2)
-    .word 0x00228293  # addi x5, x5, 2
     .word 0x00229813  # slli x16, x5, 2
     .word 0x00280833  # add x16, x16, x2
-    .word 0x06082803  # lw x16, 96(x16)
+    .word 0x06882803  # lw x16, 104(x16)
     .word 0x16c12283  # lw x5, 364(x2)
-    .word 0x00228293  # addi x5, x5, 2
     .word 0x00229c13  # slli x24, x5, 2
     .word 0x002c0c33  # add x24, x24, x2
-    .word 0x060c2c03  # lw x24, 96(x24)
+    .word 0x068c2c03  # lw x24, 104(x24)
     .word 0x16812283  # lw x5, 360(x2)
-    .word 0x00328293  # addi x5, x5, 3
     .word 0x00229893  # slli x17, x5, 2
     .word 0x002888b3  # add x17, x17, x2
-    .word 0x0608a883  # lw x17, 96(x17)
+    .word 0x06c8a883  # lw x17, 108(x17)
     .word 0x16c12283  # lw x5, 364(x2)
-    .word 0x00328293  # addi x5, x5, 3
     .word 0x00229c93  # slli x25, x5, 2
     .word 0x002c8cb3  # add x25, x25, x2
-    .word 0x060cac83  # lw x25, 96(x25)
+    .word 0x06ccac83  # lw x25, 108(x25)
     .word 0x16812283  # lw x5, 360(x2)
-    .word 0x00428293  # addi x5, x5, 4
     .word 0x00229913  # slli x18, x5, 2
     .word 0x00290933  # add x18, x18, x2
-    .word 0x06092903  # lw x18, 96(x18)
+    .word 0x07092903  # lw x18, 112(x18)
     .word 0x16c12283  # lw x5, 364(x2)
-    .word 0x00428293  # addi x5, x5, 4
     .word 0x00229d13  # slli x26, x5, 2
     .word 0x002d0d33  # add x26, x26, x2
-    .word 0x060d2d03  # lw x26, 96(x26)
+    .word 0x070d2d03  # lw x26, 112(x26)
     .word 0x16812283  # lw x5, 360(x2)
-    .word 0x00528293  # addi x5, x5, 5
     .word 0x00229993  # slli x19, x5, 2
     .word 0x002989b3  # add x19, x19, x2
-    .word 0x0609a983  # lw x19, 96(x19)
+    .word 0x0749a983  # lw x19, 116(x19)
     .word 0x16c12283  # lw x5, 364(x2)
-    .word 0x00528293  # addi x5, x5, 5
     .word 0x00229d93  # slli x27, x5, 2
     .word 0x002d8db3  # add x27, x27, x2
-    .word 0x060dad83  # lw x27, 96(x27)
+    .word 0x074dad83  # lw x27, 116(x27)
     .word 0x16812283  # lw x5, 360(x2)
-    .word 0x00628293  # addi x5, x5, 6
     .word 0x00229a13  # slli x20, x5, 2
     .word 0x002a0a33  # add x20, x20, x2
-    .word 0x060a2a03  # lw x20, 96(x20)
+    .word 0x078a2a03  # lw x20, 120(x20)
     .word 0x16c12283  # lw x5, 364(x2)
-    .word 0x00628293  # addi x5, x5, 6
     .word 0x00229293  # slli x5, x5, 2
     .word 0x002282b3  # add x5, x5, x2
-    .word 0x0602a283  # lw x5, 96(x5)
+    .word 0x0782a283  # lw x5, 120(x5)
     .word 0x18512423  # sw x5, 392(x2)
     .word 0x16812283  # lw x5, 360(x2)
-    .word 0x00728293  # addi x5, x5, 7
     .word 0x00229a93  # slli x21, x5, 2
     .word 0x002a8ab3  # add x21, x21, x2
-    .word 0x060aaa83  # lw x21, 96(x21)
+    .word 0x07caaa83  # lw x21, 124(x21)
     .word 0x16c12283  # lw x5, 364(x2)
-    .word 0x00728293  # addi x5, x5, 7
     .word 0x00229293  # slli x5, x5, 2
     .word 0x002282b3  # add x5, x5, x2
-    .word 0x0602a283  # lw x5, 96(x5)
+    .word 0x07c2a283  # lw x5, 124(x5)
     .word 0x18512623  # sw x5, 396(x2)
     .word 0x036685b3  # mul x11, x13, x22
     .word 0x0366b633  # mulhu x12, x13, x22
@@ -1805,7 +1791,6 @@ ed25519_reduce:
     .word 0x002282b3  # add x5, x5, x2
     .word 0x0662a023  # sw x6, 96(x5)
     .word 0x16412283  # lw x5, 356(x2)
-    .word 0x00128293  # addi x5, x5, 1
     .word 0x17412303  # lw x6, 372(x2)
     .word 0x40600333  # sub x6, x0, x6
     .word 0x00bbc3b3  # xor x7, x23, x11
@@ -1813,9 +1798,8 @@ ed25519_reduce:
     .word 0x0075c333  # xor x6, x11, x7
     .word 0x00229293  # slli x5, x5, 2
     .word 0x002282b3  # add x5, x5, x2
-    .word 0x0662a023  # sw x6, 96(x5)
+    .word 0x0662a223  # sw x6, 100(x5)
     .word 0x16412283  # lw x5, 356(x2)
-    .word 0x00228293  # addi x5, x5, 2
     .word 0x17412303  # lw x6, 372(x2)
     .word 0x40600333  # sub x6, x0, x6
     .word 0x00dc43b3  # xor x7, x24, x13
@@ -1823,9 +1807,8 @@ ed25519_reduce:
     .word 0x0076c333  # xor x6, x13, x7
     .word 0x00229293  # slli x5, x5, 2
     .word 0x002282b3  # add x5, x5, x2
-    .word 0x0662a023  # sw x6, 96(x5)
+    .word 0x0662a423  # sw x6, 104(x5)
     .word 0x16412283  # lw x5, 356(x2)
-    .word 0x00328293  # addi x5, x5, 3
     .word 0x17412303  # lw x6, 372(x2)
     .word 0x40600333  # sub x6, x0, x6
     .word 0x010943b3  # xor x7, x18, x16
@@ -1833,9 +1816,8 @@ ed25519_reduce:
     .word 0x00784333  # xor x6, x16, x7
     .word 0x00229293  # slli x5, x5, 2
     .word 0x002282b3  # add x5, x5, x2
-    .word 0x0662a023  # sw x6, 96(x5)
+    .word 0x0662a623  # sw x6, 108(x5)
     .word 0x16412283  # lw x5, 356(x2)
-    .word 0x00428293  # addi x5, x5, 4
     .word 0x17412303  # lw x6, 372(x2)
     .word 0x40600333  # sub x6, x0, x6
     .word 0x0159c3b3  # xor x7, x19, x21
@@ -1843,9 +1825,8 @@ ed25519_reduce:
     .word 0x007ac333  # xor x6, x21, x7
     .word 0x00229293  # slli x5, x5, 2
     .word 0x002282b3  # add x5, x5, x2
-    .word 0x0662a023  # sw x6, 96(x5)
+    .word 0x0662a823  # sw x6, 112(x5)
     .word 0x16412283  # lw x5, 356(x2)
-    .word 0x00528293  # addi x5, x5, 5
     .word 0x17412303  # lw x6, 372(x2)
     .word 0x40600333  # sub x6, x0, x6
     .word 0x019a43b3  # xor x7, x20, x25
@@ -1853,9 +1834,8 @@ ed25519_reduce:
     .word 0x007cc333  # xor x6, x25, x7
     .word 0x00229293  # slli x5, x5, 2
     .word 0x002282b3  # add x5, x5, x2
-    .word 0x0662a023  # sw x6, 96(x5)
+    .word 0x0662aa23  # sw x6, 116(x5)
     .word 0x16412283  # lw x5, 356(x2)
-    .word 0x00628293  # addi x5, x5, 6
     .word 0x17412303  # lw x6, 372(x2)
     .word 0x40600333  # sub x6, x0, x6
     .word 0x01a743b3  # xor x7, x14, x26
@@ -1863,9 +1843,8 @@ ed25519_reduce:
     .word 0x007d4333  # xor x6, x26, x7
     .word 0x00229293  # slli x5, x5, 2
     .word 0x002282b3  # add x5, x5, x2
-    .word 0x0662a023  # sw x6, 96(x5)
+    .word 0x0662ac23  # sw x6, 120(x5)
     .word 0x16412283  # lw x5, 356(x2)
-    .word 0x00728293  # addi x5, x5, 7
     .word 0x17412303  # lw x6, 372(x2)
     .word 0x40600333  # sub x6, x0, x6
     .word 0x01b7c3b3  # xor x7, x15, x27
@@ -1873,8 +1852,8 @@ ed25519_reduce:
     .word 0x007dc333  # xor x6, x27, x7
     .word 0x00229293  # slli x5, x5, 2
     .word 0x002282b3  # add x5, x5, x2
-    .word 0x0662a023  # sw x6, 96(x5)
-    .word 0x84dfe06f  # jal x0, -6068
+    .word 0x0662ae23  # sw x6, 124(x5)
+    .word 0x8a1fe06f  # jal x0, -5984
     .word 0x06012283  # lw x5, 96(x2)
     .word 0x08012303  # lw x6, 128(x2)
     .word 0x006284b3  # add x9, x5, x6

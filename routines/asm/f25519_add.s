@@ -1,4 +1,4 @@
-# f25519_add: made by factc function; 291 words, 176 bytes of stack, profile 1
+# f25519_add: made by factc 1.0.0 function; 291 words, 176 bytes of stack, profile 1
     .option push
     .option norvc
     .option norelax

@@ -1,4 +1,4 @@
-# f25519_multiply: made by factc function; 918 words, 208 bytes of stack, profile 1
+# f25519_multiply: made by factc 1.0.0 function; 918 words, 208 bytes of stack, profile 1
     .option push
     .option norvc
     .option norelax

@@ -1,4 +1,4 @@
-# f25519_subtract: made by factc function; 334 words, 176 bytes of stack, profile 1
+# f25519_subtract: made by factc 1.0.0 function; 334 words, 176 bytes of stack, profile 1
     .option push
     .option norvc
     .option norelax

@@ -1,4 +1,4 @@
-# gf256_multiply: made by factc function; 326 words, 96 bytes of stack, profile 1
+# gf256_multiply: made by factc 1.0.0 function; 317 words, 96 bytes of stack, profile 1
     .option push
     .option norvc
     .option norelax
@@ -122,36 +122,30 @@ gf256_multiply:
     .word 0x00259613  # slli x12, x11, 2
     .word 0x002602b3  # add x5, x12, x2
     .word 0x0002c283  # lbu x5, 0(x5)
-    .word 0x00160313  # addi x6, x12, 1
-    .word 0x00230333  # add x6, x6, x2
-    .word 0x00034303  # lbu x6, 0(x6)
+    .word 0x00260333  # add x6, x12, x2
+    .word 0x00134303  # lbu x6, 1(x6)
     .word 0x00831313  # slli x6, x6, 8
     .word 0x0062e733  # or x14, x5, x6
-    .word 0x00260313  # addi x6, x12, 2
-    .word 0x00230333  # add x6, x6, x2
-    .word 0x00034303  # lbu x6, 0(x6)
+    .word 0x00260333  # add x6, x12, x2
+    .word 0x00234303  # lbu x6, 2(x6)
     .word 0x01031313  # slli x6, x6, 16
     .word 0x006762b3  # or x5, x14, x6
-    .word 0x00360313  # addi x6, x12, 3
-    .word 0x00230333  # add x6, x6, x2
-    .word 0x00034303  # lbu x6, 0(x6)
+    .word 0x00260333  # add x6, x12, x2
+    .word 0x00334303  # lbu x6, 3(x6)
     .word 0x01831313  # slli x6, x6, 24
     .word 0x0062e733  # or x14, x5, x6
     .word 0x002602b3  # add x5, x12, x2
     .word 0x0102c283  # lbu x5, 16(x5)
-    .word 0x00160313  # addi x6, x12, 1
-    .word 0x00230333  # add x6, x6, x2
-    .word 0x01034303  # lbu x6, 16(x6)
+    .word 0x00260333  # add x6, x12, x2
+    .word 0x01134303  # lbu x6, 17(x6)
     .word 0x00831313  # slli x6, x6, 8
     .word 0x0062e7b3  # or x15, x5, x6
-    .word 0x00260313  # addi x6, x12, 2
-    .word 0x00230333  # add x6, x6, x2
-    .word 0x01034303  # lbu x6, 16(x6)
+    .word 0x00260333  # add x6, x12, x2
+    .word 0x01234303  # lbu x6, 18(x6)
     .word 0x01031313  # slli x6, x6, 16
     .word 0x0067e2b3  # or x5, x15, x6
-    .word 0x00360313  # addi x6, x12, 3
-    .word 0x00230333  # add x6, x6, x2
-    .word 0x01034303  # lbu x6, 16(x6)
+    .word 0x00260333  # add x6, x12, x2
+    .word 0x01334303  # lbu x6, 19(x6)
     .word 0x01831313  # slli x6, x6, 24
     .word 0x0062e7b3  # or x15, x5, x6
     .word 0x0087f833  # and x16, x15, x8
@@ -258,21 +252,18 @@ gf256_multiply:
     .word 0x00d2c6b3  # xor x13, x5, x13
     .word 0x002602b3  # add x5, x12, x2
     .word 0x02d28023  # sb x13, 32(x5)
-    .word 0x00160293  # addi x5, x12, 1
     .word 0x0086d313  # srli x6, x13, 8
-    .word 0x002282b3  # add x5, x5, x2
-    .word 0x02628023  # sb x6, 32(x5)
-    .word 0x00260293  # addi x5, x12, 2
+    .word 0x002602b3  # add x5, x12, x2
+    .word 0x026280a3  # sb x6, 33(x5)
     .word 0x0106d313  # srli x6, x13, 16
-    .word 0x002282b3  # add x5, x5, x2
-    .word 0x02628023  # sb x6, 32(x5)
-    .word 0x00360293  # addi x5, x12, 3
+    .word 0x002602b3  # add x5, x12, x2
+    .word 0x02628123  # sb x6, 34(x5)
     .word 0x0186d313  # srli x6, x13, 24
-    .word 0x002282b3  # add x5, x5, x2
-    .word 0x02628023  # sb x6, 32(x5)
+    .word 0x002602b3  # add x5, x12, x2
+    .word 0x026281a3  # sb x6, 35(x5)
     .word 0x00158593  # addi x11, x11, 1
     .word 0x0045b293  # sltiu x5, x11, 4
-    .word 0xd8029ee3  # bne x5, x0, -612
+    .word 0xdc0290e3  # bne x5, x0, -576
     .word 0xfff58593  # addi x11, x11, -1
     # the result
     .word 0x00000513  # addi x10, x0, 0

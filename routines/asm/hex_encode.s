@@ -1,4 +1,4 @@
-# hex_encode: made by factc function; 597 words, 128 bytes of stack, profile 1
+# hex_encode: made by factc 1.0.0 function; 597 words, 128 bytes of stack, profile 1
     .option push
     .option norvc
     .option norelax

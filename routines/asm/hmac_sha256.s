@@ -1,4 +1,4 @@
-# hmac_sha256: made by factc function; 3518 words, 752 bytes of stack, profile 1
+# hmac_sha256: made by factc 1.0.0 function; 3504 words, 752 bytes of stack, profile 1
     .option push
     .option norvc
     .option norelax
@@ -442,7 +442,7 @@ hmac_sha256:
     .word 0x28c12283  # lw x5, 652(x2)
     .word 0x005332b3  # sltu x5, x6, x5
     .word 0x00029463  # bne x5, x0, 8
-    .word 0x6150206f  # jal x0, 11796
+    .word 0x5dd0206f  # jal x0, 11740
     .word 0x00030593  # addi x11, x6, 0
     .word 0x00130313  # addi x6, x6, 1
     .word 0x28612423  # sw x6, 648(x2)
@@ -2277,7 +2277,7 @@ hmac_sha256:
     .word 0x00133313  # sltiu x6, x6, 1
     .word 0x0062e2b3  # or x5, x5, x6
     .word 0x00029463  # bne x5, x0, 8
-    .word 0x11c0106f  # jal x0, 4380
+    .word 0x0e40106f  # jal x0, 4324
     .word 0x1e812683  # lw x13, 488(x2)
     .word 0x1ec12703  # lw x14, 492(x2)
     .word 0x1f012783  # lw x15, 496(x2)
@@ -2296,7 +2296,7 @@ hmac_sha256:
     .word 0x29412283  # lw x5, 660(x2)
     .word 0x005332b3  # sltu x5, x6, x5
     .word 0x00029463  # bne x5, x0, 8
-    .word 0x06c0106f  # jal x0, 4204
+    .word 0x0340106f  # jal x0, 4148
     .word 0x1e612223  # sw x6, 484(x2)
     .word 0x00130313  # addi x6, x6, 1
     .word 0x28612823  # sw x6, 656(x2)
@@ -2357,10 +2357,9 @@ hmac_sha256:
     .word 0x01234333  # xor x6, x6, x18
     .word 0x006282b3  # add x5, x5, x6
     .word 0x019282b3  # add x5, x5, x25
-    .word 0x00160313  # addi x6, x12, 1
-    .word 0x00231313  # slli x6, x6, 2
+    .word 0x00261313  # slli x6, x12, 2
     .word 0x00230333  # add x6, x6, x2
-    .word 0x0e032303  # lw x6, 224(x6)
+    .word 0x0e432303  # lw x6, 228(x6)
     .word 0x006289b3  # add x19, x5, x6
     .word 0x013787b3  # add x15, x15, x19
     .word 0x00da4ab3  # xor x21, x20, x13
@@ -2396,10 +2395,9 @@ hmac_sha256:
     .word 0x01134333  # xor x6, x6, x17
     .word 0x006282b3  # add x5, x5, x6
     .word 0x01a282b3  # add x5, x5, x26
-    .word 0x00260313  # addi x6, x12, 2
-    .word 0x00231313  # slli x6, x6, 2
+    .word 0x00261313  # slli x6, x12, 2
     .word 0x00230333  # add x6, x6, x2
-    .word 0x0e032303  # lw x6, 224(x6)
+    .word 0x0e832303  # lw x6, 232(x6)
     .word 0x00628933  # add x18, x5, x6
     .word 0x01270733  # add x14, x14, x18
     .word 0x0149cb33  # xor x22, x19, x20
@@ -2436,10 +2434,9 @@ hmac_sha256:
     .word 0x006282b3  # add x5, x5, x6
     .word 0x22812303  # lw x6, 552(x2)
     .word 0x006282b3  # add x5, x5, x6
-    .word 0x00360313  # addi x6, x12, 3
-    .word 0x00231313  # slli x6, x6, 2
+    .word 0x00261313  # slli x6, x12, 2
     .word 0x00230333  # add x6, x6, x2
-    .word 0x0e032303  # lw x6, 224(x6)
+    .word 0x0ec32303  # lw x6, 236(x6)
     .word 0x006288b3  # add x17, x5, x6
     .word 0x011686b3  # add x13, x13, x17
     .word 0x01394ab3  # xor x21, x18, x19
@@ -2476,10 +2473,9 @@ hmac_sha256:
     .word 0x006282b3  # add x5, x5, x6
     .word 0x22c12303  # lw x6, 556(x2)
     .word 0x006282b3  # add x5, x5, x6
-    .word 0x00460313  # addi x6, x12, 4
-    .word 0x00231313  # slli x6, x6, 2
+    .word 0x00261313  # slli x6, x12, 2
     .word 0x00230333  # add x6, x6, x2
-    .word 0x0e032303  # lw x6, 224(x6)
+    .word 0x0f032303  # lw x6, 240(x6)
     .word 0x00628833  # add x16, x5, x6
     .word 0x010a0a33  # add x20, x20, x16
     .word 0x0128cb33  # xor x22, x17, x18
@@ -2516,10 +2512,9 @@ hmac_sha256:
     .word 0x006282b3  # add x5, x5, x6
     .word 0x23012303  # lw x6, 560(x2)
     .word 0x006282b3  # add x5, x5, x6
-    .word 0x00560313  # addi x6, x12, 5
-    .word 0x00231313  # slli x6, x6, 2
+    .word 0x00261313  # slli x6, x12, 2
     .word 0x00230333  # add x6, x6, x2
-    .word 0x0e032303  # lw x6, 224(x6)
+    .word 0x0f432303  # lw x6, 244(x6)
     .word 0x006287b3  # add x15, x5, x6
     .word 0x00f989b3  # add x19, x19, x15
     .word 0x01184ab3  # xor x21, x16, x17
@@ -2556,10 +2551,9 @@ hmac_sha256:
     .word 0x006282b3  # add x5, x5, x6
     .word 0x23412303  # lw x6, 564(x2)
     .word 0x006282b3  # add x5, x5, x6
-    .word 0x00660313  # addi x6, x12, 6
-    .word 0x00231313  # slli x6, x6, 2
+    .word 0x00261313  # slli x6, x12, 2
     .word 0x00230333  # add x6, x6, x2
-    .word 0x0e032303  # lw x6, 224(x6)
+    .word 0x0f832303  # lw x6, 248(x6)
     .word 0x00628733  # add x14, x5, x6
     .word 0x00e90933  # add x18, x18, x14
     .word 0x0107cb33  # xor x22, x15, x16
@@ -2596,10 +2590,9 @@ hmac_sha256:
     .word 0x006282b3  # add x5, x5, x6
     .word 0x23812303  # lw x6, 568(x2)
     .word 0x006282b3  # add x5, x5, x6
-    .word 0x00760313  # addi x6, x12, 7
-    .word 0x00231313  # slli x6, x6, 2
+    .word 0x00261313  # slli x6, x12, 2
     .word 0x00230333  # add x6, x6, x2
-    .word 0x0e032303  # lw x6, 224(x6)
+    .word 0x0fc32303  # lw x6, 252(x6)
     .word 0x006286b3  # add x13, x5, x6
     .word 0x00d888b3  # add x17, x17, x13
     .word 0x00f74ab3  # xor x21, x14, x15
@@ -2678,10 +2671,9 @@ hmac_sha256:
     .word 0x006282b3  # add x5, x5, x6
     .word 0x24012303  # lw x6, 576(x2)
     .word 0x006282b3  # add x5, x5, x6
-    .word 0x00160313  # addi x6, x12, 1
-    .word 0x00231313  # slli x6, x6, 2
+    .word 0x00261313  # slli x6, x12, 2
     .word 0x00230333  # add x6, x6, x2
-    .word 0x0e032303  # lw x6, 224(x6)
+    .word 0x0e432303  # lw x6, 228(x6)
     .word 0x006289b3  # add x19, x5, x6
     .word 0x013787b3  # add x15, x15, x19
     .word 0x00da4ab3  # xor x21, x20, x13
@@ -2718,10 +2710,9 @@ hmac_sha256:
     .word 0x006282b3  # add x5, x5, x6
     .word 0x24412303  # lw x6, 580(x2)
     .word 0x006282b3  # add x5, x5, x6
-    .word 0x00260313  # addi x6, x12, 2
-    .word 0x00231313  # slli x6, x6, 2
+    .word 0x00261313  # slli x6, x12, 2
     .word 0x00230333  # add x6, x6, x2
-    .word 0x0e032303  # lw x6, 224(x6)
+    .word 0x0e832303  # lw x6, 232(x6)
     .word 0x00628933  # add x18, x5, x6
     .word 0x01270733  # add x14, x14, x18
     .word 0x0149cb33  # xor x22, x19, x20
@@ -2758,10 +2749,9 @@ hmac_sha256:
     .word 0x006282b3  # add x5, x5, x6
     .word 0x24812303  # lw x6, 584(x2)
     .word 0x006282b3  # add x5, x5, x6
-    .word 0x00360313  # addi x6, x12, 3
-    .word 0x00231313  # slli x6, x6, 2
+    .word 0x00261313  # slli x6, x12, 2
     .word 0x00230333  # add x6, x6, x2
-    .word 0x0e032303  # lw x6, 224(x6)
+    .word 0x0ec32303  # lw x6, 236(x6)
     .word 0x006288b3  # add x17, x5, x6
     .word 0x011686b3  # add x13, x13, x17
     .word 0x01394ab3  # xor x21, x18, x19
@@ -2798,10 +2788,9 @@ hmac_sha256:
     .word 0x006282b3  # add x5, x5, x6
     .word 0x24c12303  # lw x6, 588(x2)
     .word 0x006282b3  # add x5, x5, x6
-    .word 0x00460313  # addi x6, x12, 4
-    .word 0x00231313  # slli x6, x6, 2
+    .word 0x00261313  # slli x6, x12, 2
     .word 0x00230333  # add x6, x6, x2
-    .word 0x0e032303  # lw x6, 224(x6)
+    .word 0x0f032303  # lw x6, 240(x6)
     .word 0x00628833  # add x16, x5, x6
     .word 0x010a0a33  # add x20, x20, x16
     .word 0x0128cb33  # xor x22, x17, x18
@@ -2838,10 +2827,9 @@ hmac_sha256:
     .word 0x006282b3  # add x5, x5, x6
     .word 0x25012303  # lw x6, 592(x2)
     .word 0x006282b3  # add x5, x5, x6
-    .word 0x00560313  # addi x6, x12, 5
-    .word 0x00231313  # slli x6, x6, 2
+    .word 0x00261313  # slli x6, x12, 2
     .word 0x00230333  # add x6, x6, x2
-    .word 0x0e032303  # lw x6, 224(x6)
+    .word 0x0f432303  # lw x6, 244(x6)
     .word 0x006287b3  # add x15, x5, x6
     .word 0x00f989b3  # add x19, x19, x15
     .word 0x01184ab3  # xor x21, x16, x17
@@ -2878,10 +2866,9 @@ hmac_sha256:
     .word 0x006282b3  # add x5, x5, x6
     .word 0x25412303  # lw x6, 596(x2)
     .word 0x006282b3  # add x5, x5, x6
-    .word 0x00660313  # addi x6, x12, 6
-    .word 0x00231313  # slli x6, x6, 2
+    .word 0x00261313  # slli x6, x12, 2
     .word 0x00230333  # add x6, x6, x2
-    .word 0x0e032303  # lw x6, 224(x6)
+    .word 0x0f832303  # lw x6, 248(x6)
     .word 0x00628733  # add x14, x5, x6
     .word 0x00e90933  # add x18, x18, x14
     .word 0x0107cb33  # xor x22, x15, x16
@@ -2917,10 +2904,9 @@ hmac_sha256:
     .word 0x01434333  # xor x6, x6, x20
     .word 0x006282b3  # add x5, x5, x6
     .word 0x01b282b3  # add x5, x5, x27
-    .word 0x00760313  # addi x6, x12, 7
-    .word 0x00231313  # slli x6, x6, 2
+    .word 0x00261313  # slli x6, x12, 2
     .word 0x00230333  # add x6, x6, x2
-    .word 0x0e032303  # lw x6, 224(x6)
+    .word 0x0fc32303  # lw x6, 252(x6)
     .word 0x006286b3  # add x13, x5, x6
     .word 0x00d888b3  # add x17, x17, x13
     .word 0x00f74ab3  # xor x21, x14, x15
@@ -3346,7 +3332,7 @@ hmac_sha256:
     .word 0x006d82b3  # add x5, x27, x6
     .word 0x01628b33  # add x22, x5, x22
     .word 0x017b0db3  # add x27, x22, x23
-    .word 0xf89fe06f  # jal x0, -4216
+    .word 0xfc1fe06f  # jal x0, -4160
     .word 0x1e812283  # lw x5, 488(x2)
     .word 0x00d282b3  # add x5, x5, x13
     .word 0x1e512423  # sw x5, 488(x2)
@@ -3390,7 +3376,7 @@ hmac_sha256:
     .word 0x22512023  # sw x5, 544(x2)
     .word 0x20412283  # lw x5, 516(x2)
     .word 0x22512223  # sw x5, 548(x2)
-    .word 0x9e0fd06f  # jal x0, -11808
+    .word 0xa18fd06f  # jal x0, -11752
     .word 0x1e812b03  # lw x22, 488(x2)
     .word 0x018b5293  # srli x5, x22, 24
     .word 0x0c510023  # sb x5, 192(x2)

@@ -1,4 +1,4 @@
-# is_zero_32: made by factc function; 139 words, 64 bytes of stack, profile 1
+# is_zero_32: made by factc 1.0.0 function; 139 words, 64 bytes of stack, profile 1
     .option push
     .option norvc
     .option norelax

@@ -1,4 +1,4 @@
-# keccak_f1600: made by factc 1.0.0 function; 1161 words, 736 bytes of stack, profile 1
+# keccak_f1600: made by factc 1.0.0 function; 1160 words, 736 bytes of stack, profile 1
     .option push
     .option norvc
     .option norelax
@@ -290,7 +290,7 @@ keccak_f1600:
     .word 0x2ac12283  # lw x5, 684(x2)
     .word 0x005332b3  # sltu x5, x6, x5
     .word 0x00029463  # bne x5, x0, 8
-    .word 0x3490006f  # jal x0, 2888
+    .word 0x3450006f  # jal x0, 2884
     .word 0x22612c23  # sw x6, 568(x2)
     .word 0x00130313  # addi x6, x6, 1
     .word 0x2a612423  # sw x6, 680(x2)
@@ -478,10 +478,9 @@ keccak_f1600:
     .word 0x006542b3  # xor x5, x10, x6
     .word 0x23812303  # lw x6, 568(x2)
     .word 0x00131313  # slli x6, x6, 1
-    .word 0x00130313  # addi x6, x6, 1
     .word 0x00231313  # slli x6, x6, 2
     .word 0x00230333  # add x6, x6, x2
-    .word 0x0c832303  # lw x6, 200(x6)
+    .word 0x0cc32303  # lw x6, 204(x6)
     .word 0x0062c2b3  # xor x5, x5, x6
     .word 0x20512223  # sw x5, 516(x2)
     .word 0x41600333  # sub x6, x0, x22
@@ -1011,7 +1010,7 @@ keccak_f1600:
     .word 0x20512223  # sw x5, 516(x2)
     .word 0x20b12423  # sw x11, 520(x2)
     .word 0x20a12623  # sw x10, 524(x2)
-    .word 0xcacff06f  # jal x0, -2900
+    .word 0xcb0ff06f  # jal x0, -2896
     .word 0x01612023  # sw x22, 0(x2)
     .word 0x01712223  # sw x23, 4(x2)
     .word 0x18812283  # lw x5, 392(x2)

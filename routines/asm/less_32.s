@@ -1,4 +1,4 @@
-# less_32: made by factc function; 279 words, 96 bytes of stack, profile 1
+# less_32: made by factc 1.0.0 function; 279 words, 96 bytes of stack, profile 1
     .option push
     .option norvc
     .option norelax

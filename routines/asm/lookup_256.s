@@ -1,4 +1,4 @@
-# lookup_256: made by factc function; 117 words, 288 bytes of stack, profile 1
+# lookup_256: made by factc 1.0.0 function; 117 words, 288 bytes of stack, profile 1
     .option push
     .option norvc
     .option norelax

@@ -1,4 +1,4 @@
-# lookup_bytes_16: made by factc function; 274 words, 304 bytes of stack, profile 1
+# lookup_bytes_16: made by factc 1.0.0 function; 274 words, 304 bytes of stack, profile 1
     .option push
     .option norvc
     .option norelax

@@ -1,4 +1,4 @@
-# md5_block: made by factc function; 1063 words, 144 bytes of stack, profile 1
+# md5_block: made by factc 1.0.0 function; 1063 words, 144 bytes of stack, profile 1
     .option push
     .option norvc
     .option norelax

@@ -1,4 +1,4 @@
-# minimum_maximum_16: made by factc function; 251 words, 96 bytes of stack, profile 1
+# minimum_maximum_16: made by factc 1.0.0 function; 251 words, 96 bytes of stack, profile 1
     .option push
     .option norvc
     .option norelax

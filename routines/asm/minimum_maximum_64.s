@@ -1,4 +1,4 @@
-# minimum_maximum_64: made by factc function; 112 words, 80 bytes of stack, profile 1
+# minimum_maximum_64: made by factc 1.0.0 function; 112 words, 80 bytes of stack, profile 1
     .option push
     .option norvc
     .option norelax

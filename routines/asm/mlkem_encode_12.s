@@ -1,4 +1,4 @@
-# mlkem_encode_12: made by factc function; 200 words, 928 bytes of stack, profile 1
+# mlkem_encode_12: made by factc 1.0.0 function; 197 words, 928 bytes of stack, profile 1
     .option push
     .option norvc
     .option norelax
@@ -113,26 +113,23 @@ mlkem_encode_12:
     .word 0x00151613  # slli x12, x10, 1
     .word 0x00260633  # add x12, x12, x2
     .word 0x00065603  # lhu x12, 0(x12)
-    .word 0x00150293  # addi x5, x10, 1
-    .word 0x00129693  # slli x13, x5, 1
+    .word 0x00151693  # slli x13, x10, 1
     .word 0x002686b3  # add x13, x13, x2
-    .word 0x0006d683  # lhu x13, 0(x13)
+    .word 0x0026d683  # lhu x13, 2(x13)
     .word 0x002582b3  # add x5, x11, x2
     .word 0x20c28023  # sb x12, 512(x5)
-    .word 0x00158293  # addi x5, x11, 1
     .word 0x00865313  # srli x6, x12, 8
     .word 0x00f37313  # andi x6, x6, 15
     .word 0x00469393  # slli x7, x13, 4
     .word 0x00736333  # or x6, x6, x7
-    .word 0x002282b3  # add x5, x5, x2
-    .word 0x20628023  # sb x6, 512(x5)
-    .word 0x00258293  # addi x5, x11, 2
+    .word 0x002582b3  # add x5, x11, x2
+    .word 0x206280a3  # sb x6, 513(x5)
     .word 0x0046d313  # srli x6, x13, 4
-    .word 0x002282b3  # add x5, x5, x2
-    .word 0x20628023  # sb x6, 512(x5)
+    .word 0x002582b3  # add x5, x11, x2
+    .word 0x20628123  # sb x6, 514(x5)
     .word 0x00148493  # addi x9, x9, 1
     .word 0x0804b293  # sltiu x5, x9, 128
-    .word 0xfa0290e3  # bne x5, x0, -96
+    .word 0xfa0296e3  # bne x5, x0, -84
     .word 0xfff48493  # addi x9, x9, -1
     # the result
     .word 0x00000513  # addi x10, x0, 0

@@ -1,4 +1,4 @@
-# mlkem_message: made by factc 1.0.0 function; 196 words, 576 bytes of stack, profile 1
+# mlkem_message: made by factc 1.0.0 function; 189 words, 576 bytes of stack, profile 1
     .option push
     .option norvc
     .option norelax
@@ -72,71 +72,64 @@ mlkem_message:
     .word 0x002282b3  # add x5, x5, x2
     .word 0x02629023  # sh x6, 32(x5)
     .word 0x00341293  # slli x5, x8, 3
-    .word 0x00128293  # addi x5, x5, 1
     .word 0x0014d313  # srli x6, x9, 1
     .word 0x00137313  # andi x6, x6, 1
     .word 0x40600333  # sub x6, x0, x6
     .word 0x68137313  # andi x6, x6, 1665
     .word 0x00129293  # slli x5, x5, 1
     .word 0x002282b3  # add x5, x5, x2
-    .word 0x02629023  # sh x6, 32(x5)
+    .word 0x02629123  # sh x6, 34(x5)
     .word 0x00341293  # slli x5, x8, 3
-    .word 0x00228293  # addi x5, x5, 2
     .word 0x0024d313  # srli x6, x9, 2
     .word 0x00137313  # andi x6, x6, 1
     .word 0x40600333  # sub x6, x0, x6
     .word 0x68137313  # andi x6, x6, 1665
     .word 0x00129293  # slli x5, x5, 1
     .word 0x002282b3  # add x5, x5, x2
-    .word 0x02629023  # sh x6, 32(x5)
+    .word 0x02629223  # sh x6, 36(x5)
     .word 0x00341293  # slli x5, x8, 3
-    .word 0x00328293  # addi x5, x5, 3
     .word 0x0034d313  # srli x6, x9, 3
     .word 0x00137313  # andi x6, x6, 1
     .word 0x40600333  # sub x6, x0, x6
     .word 0x68137313  # andi x6, x6, 1665
     .word 0x00129293  # slli x5, x5, 1
     .word 0x002282b3  # add x5, x5, x2
-    .word 0x02629023  # sh x6, 32(x5)
+    .word 0x02629323  # sh x6, 38(x5)
     .word 0x00341293  # slli x5, x8, 3
-    .word 0x00428293  # addi x5, x5, 4
     .word 0x0044d313  # srli x6, x9, 4
     .word 0x00137313  # andi x6, x6, 1
     .word 0x40600333  # sub x6, x0, x6
     .word 0x68137313  # andi x6, x6, 1665
     .word 0x00129293  # slli x5, x5, 1
     .word 0x002282b3  # add x5, x5, x2
-    .word 0x02629023  # sh x6, 32(x5)
+    .word 0x02629423  # sh x6, 40(x5)
     .word 0x00341293  # slli x5, x8, 3
-    .word 0x00528293  # addi x5, x5, 5
     .word 0x0054d313  # srli x6, x9, 5
     .word 0x00137313  # andi x6, x6, 1
     .word 0x40600333  # sub x6, x0, x6
     .word 0x68137313  # andi x6, x6, 1665
     .word 0x00129293  # slli x5, x5, 1
     .word 0x002282b3  # add x5, x5, x2
-    .word 0x02629023  # sh x6, 32(x5)
+    .word 0x02629523  # sh x6, 42(x5)
     .word 0x00341293  # slli x5, x8, 3
-    .word 0x00628293  # addi x5, x5, 6
     .word 0x0064d313  # srli x6, x9, 6
     .word 0x00137313  # andi x6, x6, 1
     .word 0x40600333  # sub x6, x0, x6
     .word 0x68137313  # andi x6, x6, 1665
     .word 0x00129293  # slli x5, x5, 1
     .word 0x002282b3  # add x5, x5, x2
-    .word 0x02629023  # sh x6, 32(x5)
+    .word 0x02629623  # sh x6, 44(x5)
     .word 0x00341293  # slli x5, x8, 3
-    .word 0x00728293  # addi x5, x5, 7
     .word 0x0074d313  # srli x6, x9, 7
     .word 0x00137313  # andi x6, x6, 1
     .word 0x40600333  # sub x6, x0, x6
     .word 0x68137313  # andi x6, x6, 1665
     .word 0x00129293  # slli x5, x5, 1
     .word 0x002282b3  # add x5, x5, x2
-    .word 0x02629023  # sh x6, 32(x5)
+    .word 0x02629723  # sh x6, 46(x5)
     .word 0x00140413  # addi x8, x8, 1
     .word 0x02043293  # sltiu x5, x8, 32
-    .word 0xec029ce3  # bne x5, x0, -296
+    .word 0xee029ae3  # bne x5, x0, -268
     .word 0xfff40413  # addi x8, x8, -1
     # the result
     .word 0x00000513  # addi x10, x0, 0

@@ -1,4 +1,4 @@
-# mlkem_multiply_ntts: made by factc 1.0.0 function; 477 words, 1840 bytes of stack, profile 1
+# mlkem_multiply_ntts: made by factc 1.0.0 function; 471 words, 1840 bytes of stack, profile 1
     .option push
     .option norvc
     .option norelax
@@ -318,17 +318,15 @@ mlkem_multiply_ntts:
     .word 0x00149513  # slli x10, x9, 1
     .word 0x00250533  # add x10, x10, x2
     .word 0x00055503  # lhu x10, 0(x10)
-    .word 0x00148293  # addi x5, x9, 1
-    .word 0x00129593  # slli x11, x5, 1
+    .word 0x00149593  # slli x11, x9, 1
     .word 0x002585b3  # add x11, x11, x2
-    .word 0x0005d583  # lhu x11, 0(x11)
+    .word 0x0025d583  # lhu x11, 2(x11)
     .word 0x00149613  # slli x12, x9, 1
     .word 0x00260633  # add x12, x12, x2
     .word 0x20065603  # lhu x12, 512(x12)
-    .word 0x00148293  # addi x5, x9, 1
-    .word 0x00129693  # slli x13, x5, 1
+    .word 0x00149693  # slli x13, x9, 1
     .word 0x002686b3  # add x13, x13, x2
-    .word 0x2006d683  # lhu x13, 512(x13)
+    .word 0x2026d683  # lhu x13, 514(x13)
     .word 0x02d58733  # mul x14, x11, x13
     .word 0x030737b3  # mulhu x15, x14, x16
     .word 0x00b7d313  # srli x6, x15, 11
@@ -354,26 +352,23 @@ mlkem_multiply_ntts:
     .word 0x00149293  # slli x5, x9, 1
     .word 0x002282b3  # add x5, x5, x2
     .word 0x40f29023  # sh x15, 1024(x5)
-    .word 0x00148293  # addi x5, x9, 1
-    .word 0x00129293  # slli x5, x5, 1
+    .word 0x00149293  # slli x5, x9, 1
     .word 0x002282b3  # add x5, x5, x2
-    .word 0x40e29023  # sh x14, 1024(x5)
+    .word 0x40e29123  # sh x14, 1026(x5)
     .word 0x00241293  # slli x5, x8, 2
     .word 0x00228493  # addi x9, x5, 2
     .word 0x00149513  # slli x10, x9, 1
     .word 0x00250533  # add x10, x10, x2
     .word 0x00055503  # lhu x10, 0(x10)
-    .word 0x00148293  # addi x5, x9, 1
-    .word 0x00129593  # slli x11, x5, 1
+    .word 0x00149593  # slli x11, x9, 1
     .word 0x002585b3  # add x11, x11, x2
-    .word 0x0005d583  # lhu x11, 0(x11)
+    .word 0x0025d583  # lhu x11, 2(x11)
     .word 0x00149613  # slli x12, x9, 1
     .word 0x00260633  # add x12, x12, x2
     .word 0x20065603  # lhu x12, 512(x12)
-    .word 0x00148293  # addi x5, x9, 1
-    .word 0x00129693  # slli x13, x5, 1
+    .word 0x00149693  # slli x13, x9, 1
     .word 0x002686b3  # add x13, x13, x2
-    .word 0x2006d683  # lhu x13, 512(x13)
+    .word 0x2026d683  # lhu x13, 514(x13)
     .word 0x02d58733  # mul x14, x11, x13
     .word 0x030737b3  # mulhu x15, x14, x16
     .word 0x00b7d313  # srli x6, x15, 11
@@ -400,13 +395,12 @@ mlkem_multiply_ntts:
     .word 0x00149293  # slli x5, x9, 1
     .word 0x002282b3  # add x5, x5, x2
     .word 0x40f29023  # sh x15, 1024(x5)
-    .word 0x00148293  # addi x5, x9, 1
-    .word 0x00129293  # slli x5, x5, 1
+    .word 0x00149293  # slli x5, x9, 1
     .word 0x002282b3  # add x5, x5, x2
-    .word 0x40e29023  # sh x14, 1024(x5)
+    .word 0x40e29123  # sh x14, 1026(x5)
     .word 0x00140413  # addi x8, x8, 1
     .word 0x04043293  # sltiu x5, x8, 64
-    .word 0xe80298e3  # bne x5, x0, -368
+    .word 0xea0294e3  # bne x5, x0, -344
     .word 0xfff40413  # addi x8, x8, -1
     # the result
     .word 0x00000513  # addi x10, x0, 0

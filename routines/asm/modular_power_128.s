@@ -1,4 +1,4 @@
-# modular_power_128: made by factc function; 704 words, 288 bytes of stack, profile 1
+# modular_power_128: made by factc 1.0.0 function; 704 words, 288 bytes of stack, profile 1
     .option push
     .option norvc
     .option norelax

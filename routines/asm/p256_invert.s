@@ -1,4 +1,4 @@
-# p256_invert: made by factc function; 1266 words, 784 bytes of stack, profile 1
+# p256_invert: made by factc 1.0.0 function; 1245 words, 784 bytes of stack, profile 1
     .option push
     .option norvc
     .option norelax
@@ -208,7 +208,7 @@ p256_invert:
     .word 0x2bc12283  # lw x5, 700(x2)
     .word 0x005332b3  # sltu x5, x6, x5
     .word 0x00029463  # bne x5, x0, 8
-    .word 0x7a90006f  # jal x0, 4008
+    .word 0x7550006f  # jal x0, 3924
     .word 0x26612823  # sw x6, 624(x2)
     .word 0x00130313  # addi x6, x6, 1
     .word 0x2a612c23  # sw x6, 696(x2)
@@ -222,7 +222,7 @@ p256_invert:
     .word 0x2c412283  # lw x5, 708(x2)
     .word 0x005332b3  # sltu x5, x6, x5
     .word 0x00029463  # bne x5, x0, 8
-    .word 0x76d0006f  # jal x0, 3948
+    .word 0x7190006f  # jal x0, 3864
     .word 0x26612a23  # sw x6, 628(x2)
     .word 0x00130313  # addi x6, x6, 1
     .word 0x2c612023  # sw x6, 704(x2)
@@ -276,76 +276,62 @@ p256_invert:
     .word 0x002b0b33  # add x22, x22, x2
     .word 0x040b2b03  # lw x22, 64(x22)
     .word 0x28412283  # lw x5, 644(x2)
-    .word 0x00128293  # addi x5, x5, 1
     .word 0x00229793  # slli x15, x5, 2
     .word 0x002787b3  # add x15, x15, x2
-    .word 0x0407a783  # lw x15, 64(x15)
+    .word 0x0447a783  # lw x15, 68(x15)
     .word 0x27c12283  # lw x5, 636(x2)
-    .word 0x00128293  # addi x5, x5, 1
     .word 0x00229b93  # slli x23, x5, 2
     .word 0x002b8bb3  # add x23, x23, x2
-    .word 0x040bab83  # lw x23, 64(x23)
+    .word 0x044bab83  # lw x23, 68(x23)
     .word 0x28412283  # lw x5, 644(x2)
-    .word 0x00228293  # addi x5, x5, 2
     .word 0x00229813  # slli x16, x5, 2
     .word 0x00280833  # add x16, x16, x2
-    .word 0x04082803  # lw x16, 64(x16)
+    .word 0x04882803  # lw x16, 72(x16)
     .word 0x27c12283  # lw x5, 636(x2)
-    .word 0x00228293  # addi x5, x5, 2
     .word 0x00229c13  # slli x24, x5, 2
     .word 0x002c0c33  # add x24, x24, x2
-    .word 0x040c2c03  # lw x24, 64(x24)
+    .word 0x048c2c03  # lw x24, 72(x24)
     .word 0x28412283  # lw x5, 644(x2)
-    .word 0x00328293  # addi x5, x5, 3
     .word 0x00229893  # slli x17, x5, 2
     .word 0x002888b3  # add x17, x17, x2
-    .word 0x0408a883  # lw x17, 64(x17)
+    .word 0x04c8a883  # lw x17, 76(x17)
     .word 0x27c12283  # lw x5, 636(x2)
-    .word 0x00328293  # addi x5, x5, 3
     .word 0x00229c93  # slli x25, x5, 2
     .word 0x002c8cb3  # add x25, x25, x2
-    .word 0x040cac83  # lw x25, 64(x25)
+    .word 0x04ccac83  # lw x25, 76(x25)
     .word 0x28412283  # lw x5, 644(x2)
-    .word 0x00428293  # addi x5, x5, 4
     .word 0x00229913  # slli x18, x5, 2
     .word 0x00290933  # add x18, x18, x2
-    .word 0x04092903  # lw x18, 64(x18)
+    .word 0x05092903  # lw x18, 80(x18)
     .word 0x27c12283  # lw x5, 636(x2)
-    .word 0x00428293  # addi x5, x5, 4
     .word 0x00229d13  # slli x26, x5, 2
     .word 0x002d0d33  # add x26, x26, x2
-    .word 0x040d2d03  # lw x26, 64(x26)
+    .word 0x050d2d03  # lw x26, 80(x26)
     .word 0x28412283  # lw x5, 644(x2)
-    .word 0x00528293  # addi x5, x5, 5
     .word 0x00229993  # slli x19, x5, 2
     .word 0x002989b3  # add x19, x19, x2
-    .word 0x0409a983  # lw x19, 64(x19)
+    .word 0x0549a983  # lw x19, 84(x19)
     .word 0x27c12283  # lw x5, 636(x2)
-    .word 0x00528293  # addi x5, x5, 5
     .word 0x00229d93  # slli x27, x5, 2
     .word 0x002d8db3  # add x27, x27, x2
-    .word 0x040dad83  # lw x27, 64(x27)
+    .word 0x054dad83  # lw x27, 84(x27)
     .word 0x28412283  # lw x5, 644(x2)
-    .word 0x00628293  # addi x5, x5, 6
     .word 0x00229a13  # slli x20, x5, 2
     .word 0x002a0a33  # add x20, x20, x2
-    .word 0x040a2a03  # lw x20, 64(x20)
+    .word 0x058a2a03  # lw x20, 88(x20)
     .word 0x27c12283  # lw x5, 636(x2)
-    .word 0x00628293  # addi x5, x5, 6
     .word 0x00229293  # slli x5, x5, 2
     .word 0x002282b3  # add x5, x5, x2
-    .word 0x0402a283  # lw x5, 64(x5)
+    .word 0x0582a283  # lw x5, 88(x5)
     .word 0x28512623  # sw x5, 652(x2)
     .word 0x28412283  # lw x5, 644(x2)
-    .word 0x00728293  # addi x5, x5, 7
     .word 0x00229a93  # slli x21, x5, 2
     .word 0x002a8ab3  # add x21, x21, x2
-    .word 0x040aaa83  # lw x21, 64(x21)
+    .word 0x05caaa83  # lw x21, 92(x21)
     .word 0x27c12283  # lw x5, 636(x2)
-    .word 0x00728293  # addi x5, x5, 7
     .word 0x00229293  # slli x5, x5, 2
     .word 0x002282b3  # add x5, x5, x2
-    .word 0x0402a283  # lw x5, 64(x5)
+    .word 0x05c2a283  # lw x5, 92(x5)
     .word 0x28512823  # sw x5, 656(x2)
     .word 0x03670633  # mul x12, x14, x22
     .word 0x036736b3  # mulhu x13, x14, x22
@@ -1139,7 +1125,6 @@ p256_invert:
     .word 0x002282b3  # add x5, x5, x2
     .word 0x0462a023  # sw x6, 64(x5)
     .word 0x28012283  # lw x5, 640(x2)
-    .word 0x00128293  # addi x5, x5, 1
     .word 0x28812303  # lw x6, 648(x2)
     .word 0x40600333  # sub x6, x0, x6
     .word 0x012ac3b3  # xor x7, x21, x18
@@ -1147,9 +1132,8 @@ p256_invert:
     .word 0x00794333  # xor x6, x18, x7
     .word 0x00229293  # slli x5, x5, 2
     .word 0x002282b3  # add x5, x5, x2
-    .word 0x0462a023  # sw x6, 64(x5)
+    .word 0x0462a223  # sw x6, 68(x5)
     .word 0x28012283  # lw x5, 640(x2)
-    .word 0x00228293  # addi x5, x5, 2
     .word 0x28812303  # lw x6, 648(x2)
     .word 0x40600333  # sub x6, x0, x6
     .word 0x013b43b3  # xor x7, x22, x19
@@ -1157,9 +1141,8 @@ p256_invert:
     .word 0x0079c333  # xor x6, x19, x7
     .word 0x00229293  # slli x5, x5, 2
     .word 0x002282b3  # add x5, x5, x2
-    .word 0x0462a023  # sw x6, 64(x5)
+    .word 0x0462a423  # sw x6, 72(x5)
     .word 0x28012283  # lw x5, 640(x2)
-    .word 0x00328293  # addi x5, x5, 3
     .word 0x28812303  # lw x6, 648(x2)
     .word 0x40600333  # sub x6, x0, x6
     .word 0x0175c3b3  # xor x7, x11, x23
@@ -1167,9 +1150,8 @@ p256_invert:
     .word 0x007bc333  # xor x6, x23, x7
     .word 0x00229293  # slli x5, x5, 2
     .word 0x002282b3  # add x5, x5, x2
-    .word 0x0462a023  # sw x6, 64(x5)
+    .word 0x0462a623  # sw x6, 76(x5)
     .word 0x28012283  # lw x5, 640(x2)
-    .word 0x00428293  # addi x5, x5, 4
     .word 0x28812303  # lw x6, 648(x2)
     .word 0x40600333  # sub x6, x0, x6
     .word 0x018743b3  # xor x7, x14, x24
@@ -1177,9 +1159,8 @@ p256_invert:
     .word 0x007c4333  # xor x6, x24, x7
     .word 0x00229293  # slli x5, x5, 2
     .word 0x002282b3  # add x5, x5, x2
-    .word 0x0462a023  # sw x6, 64(x5)
+    .word 0x0462a823  # sw x6, 80(x5)
     .word 0x28012283  # lw x5, 640(x2)
-    .word 0x00528293  # addi x5, x5, 5
     .word 0x28812303  # lw x6, 648(x2)
     .word 0x40600333  # sub x6, x0, x6
     .word 0x0197c3b3  # xor x7, x15, x25
@@ -1187,9 +1168,8 @@ p256_invert:
     .word 0x007cc333  # xor x6, x25, x7
     .word 0x00229293  # slli x5, x5, 2
     .word 0x002282b3  # add x5, x5, x2
-    .word 0x0462a023  # sw x6, 64(x5)
+    .word 0x0462aa23  # sw x6, 84(x5)
     .word 0x28012283  # lw x5, 640(x2)
-    .word 0x00628293  # addi x5, x5, 6
     .word 0x28812303  # lw x6, 648(x2)
     .word 0x40600333  # sub x6, x0, x6
     .word 0x01a843b3  # xor x7, x16, x26
@@ -1197,9 +1177,8 @@ p256_invert:
     .word 0x007d4333  # xor x6, x26, x7
     .word 0x00229293  # slli x5, x5, 2
     .word 0x002282b3  # add x5, x5, x2
-    .word 0x0462a023  # sw x6, 64(x5)
+    .word 0x0462ac23  # sw x6, 88(x5)
     .word 0x28012283  # lw x5, 640(x2)
-    .word 0x00728293  # addi x5, x5, 7
     .word 0x28812303  # lw x6, 648(x2)
     .word 0x40600333  # sub x6, x0, x6
     .word 0x01b6c3b3  # xor x7, x13, x27
@@ -1207,9 +1186,9 @@ p256_invert:
     .word 0x007dc333  # xor x6, x27, x7
     .word 0x00229293  # slli x5, x5, 2
     .word 0x002282b3  # add x5, x5, x2
-    .word 0x0462a023  # sw x6, 64(x5)
-    .word 0x888ff06f  # jal x0, -3960
-    .word 0x84cff06f  # jal x0, -4020
+    .word 0x0462ae23  # sw x6, 92(x5)
+    .word 0x8dcff06f  # jal x0, -3876
+    .word 0x8a0ff06f  # jal x0, -3936
     .word 0x10012283  # lw x5, 256(x2)
     .word 0x02512023  # sw x5, 32(x2)
     .word 0x10412283  # lw x5, 260(x2)

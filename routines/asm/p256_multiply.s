@@ -1,4 +1,4 @@
-# p256_multiply: made by factc function; 971 words, 208 bytes of stack, profile 1
+# p256_multiply: made by factc 1.0.0 function; 971 words, 208 bytes of stack, profile 1
     .option push
     .option norvc
     .option norelax

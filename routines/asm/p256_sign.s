@@ -1,4 +1,4 @@
-# p256_sign: made by factc function; 3673 words, 2288 bytes of stack, profile 1
+# p256_sign: made by factc 1.0.0 function; 3652 words, 2288 bytes of stack, profile 1
     .option push
     .option norvc
     .option norelax
@@ -1342,7 +1342,7 @@ p256_sign:
     .word 0x8982a283  # lw x5, -1896(x5)
     .word 0x005332b3  # sltu x5, x6, x5
     .word 0x00029463  # bne x5, x0, 8
-    .word 0x4ed0106f  # jal x0, 7404
+    .word 0x4990106f  # jal x0, 7320
     .word 0x32612e23  # sw x6, 828(x2)
     .word 0x00130313  # addi x6, x6, 1
     .word 0x00001e37  # lui x28, 0x00001
@@ -1387,7 +1387,7 @@ p256_sign:
     .word 0x8a02a283  # lw x5, -1888(x5)
     .word 0x005332b3  # sltu x5, x6, x5
     .word 0x00029463  # bne x5, x0, 8
-    .word 0x1310106f  # jal x0, 6448
+    .word 0x0dd0106f  # jal x0, 6364
     .word 0x34612423  # sw x6, 840(x2)
     .word 0x00130313  # addi x6, x6, 1
     .word 0x00001e37  # lui x28, 0x00001
@@ -1465,7 +1465,7 @@ p256_sign:
     .word 0x34512c23  # sw x5, 856(x2)
     .word 0x35812283  # lw x5, 856(x2)
     .word 0x00029463  # bne x5, x0, 8
-    .word 0x7f40106f  # jal x0, 6132
+    .word 0x7a00106f  # jal x0, 6048
     .word 0x41412283  # lw x5, 1044(x2)
     .word 0x0382f293  # andi x5, x5, 56
     .word 0x40512a23  # sw x5, 1044(x2)
@@ -1500,76 +1500,62 @@ p256_sign:
     .word 0x002b0b33  # add x22, x22, x2
     .word 0x0c0b2b03  # lw x22, 192(x22)
     .word 0x36012283  # lw x5, 864(x2)
-    .word 0x00128293  # addi x5, x5, 1
     .word 0x00229793  # slli x15, x5, 2
     .word 0x002787b3  # add x15, x15, x2
-    .word 0x0c07a783  # lw x15, 192(x15)
+    .word 0x0c47a783  # lw x15, 196(x15)
     .word 0x36412283  # lw x5, 868(x2)
-    .word 0x00128293  # addi x5, x5, 1
     .word 0x00229b93  # slli x23, x5, 2
     .word 0x002b8bb3  # add x23, x23, x2
-    .word 0x0c0bab83  # lw x23, 192(x23)
+    .word 0x0c4bab83  # lw x23, 196(x23)
     .word 0x36012283  # lw x5, 864(x2)
-    .word 0x00228293  # addi x5, x5, 2
     .word 0x00229813  # slli x16, x5, 2
     .word 0x00280833  # add x16, x16, x2
-    .word 0x0c082803  # lw x16, 192(x16)
+    .word 0x0c882803  # lw x16, 200(x16)
     .word 0x36412283  # lw x5, 868(x2)
-    .word 0x00228293  # addi x5, x5, 2
     .word 0x00229c13  # slli x24, x5, 2
     .word 0x002c0c33  # add x24, x24, x2
-    .word 0x0c0c2c03  # lw x24, 192(x24)
+    .word 0x0c8c2c03  # lw x24, 200(x24)
     .word 0x36012283  # lw x5, 864(x2)
-    .word 0x00328293  # addi x5, x5, 3
     .word 0x00229893  # slli x17, x5, 2
     .word 0x002888b3  # add x17, x17, x2
-    .word 0x0c08a883  # lw x17, 192(x17)
+    .word 0x0cc8a883  # lw x17, 204(x17)
     .word 0x36412283  # lw x5, 868(x2)
-    .word 0x00328293  # addi x5, x5, 3
     .word 0x00229c93  # slli x25, x5, 2
     .word 0x002c8cb3  # add x25, x25, x2
-    .word 0x0c0cac83  # lw x25, 192(x25)
+    .word 0x0cccac83  # lw x25, 204(x25)
     .word 0x36012283  # lw x5, 864(x2)
-    .word 0x00428293  # addi x5, x5, 4
     .word 0x00229913  # slli x18, x5, 2
     .word 0x00290933  # add x18, x18, x2
-    .word 0x0c092903  # lw x18, 192(x18)
+    .word 0x0d092903  # lw x18, 208(x18)
     .word 0x36412283  # lw x5, 868(x2)
-    .word 0x00428293  # addi x5, x5, 4
     .word 0x00229d13  # slli x26, x5, 2
     .word 0x002d0d33  # add x26, x26, x2
-    .word 0x0c0d2d03  # lw x26, 192(x26)
+    .word 0x0d0d2d03  # lw x26, 208(x26)
     .word 0x36012283  # lw x5, 864(x2)
-    .word 0x00528293  # addi x5, x5, 5
     .word 0x00229993  # slli x19, x5, 2
     .word 0x002989b3  # add x19, x19, x2
-    .word 0x0c09a983  # lw x19, 192(x19)
+    .word 0x0d49a983  # lw x19, 212(x19)
     .word 0x36412283  # lw x5, 868(x2)
-    .word 0x00528293  # addi x5, x5, 5
     .word 0x00229d93  # slli x27, x5, 2
     .word 0x002d8db3  # add x27, x27, x2
-    .word 0x0c0dad83  # lw x27, 192(x27)
+    .word 0x0d4dad83  # lw x27, 212(x27)
     .word 0x36012283  # lw x5, 864(x2)
-    .word 0x00628293  # addi x5, x5, 6
     .word 0x00229a13  # slli x20, x5, 2
     .word 0x002a0a33  # add x20, x20, x2
-    .word 0x0c0a2a03  # lw x20, 192(x20)
+    .word 0x0d8a2a03  # lw x20, 216(x20)
     .word 0x36412283  # lw x5, 868(x2)
-    .word 0x00628293  # addi x5, x5, 6
     .word 0x00229293  # slli x5, x5, 2
     .word 0x002282b3  # add x5, x5, x2
-    .word 0x0c02a283  # lw x5, 192(x5)
+    .word 0x0d82a283  # lw x5, 216(x5)
     .word 0x7a512023  # sw x5, 1952(x2)
     .word 0x36012283  # lw x5, 864(x2)
-    .word 0x00728293  # addi x5, x5, 7
     .word 0x00229a93  # slli x21, x5, 2
     .word 0x002a8ab3  # add x21, x21, x2
-    .word 0x0c0aaa83  # lw x21, 192(x21)
+    .word 0x0dcaaa83  # lw x21, 220(x21)
     .word 0x36412283  # lw x5, 868(x2)
-    .word 0x00728293  # addi x5, x5, 7
     .word 0x00229293  # slli x5, x5, 2
     .word 0x002282b3  # add x5, x5, x2
-    .word 0x0c02a283  # lw x5, 192(x5)
+    .word 0x0dc2a283  # lw x5, 220(x5)
     .word 0x7a512223  # sw x5, 1956(x2)
     .word 0x036685b3  # mul x11, x13, x22
     .word 0x0366b633  # mulhu x12, x13, x22
@@ -2928,7 +2914,6 @@ p256_sign:
     .word 0x002282b3  # add x5, x5, x2
     .word 0x0c62a023  # sw x6, 192(x5)
     .word 0x41412283  # lw x5, 1044(x2)
-    .word 0x00128293  # addi x5, x5, 1
     .word 0x4b012303  # lw x6, 1200(x2)
     .word 0x40600333  # sub x6, x0, x6
     .word 0x00bbc3b3  # xor x7, x23, x11
@@ -2936,9 +2921,8 @@ p256_sign:
     .word 0x0075c333  # xor x6, x11, x7
     .word 0x00229293  # slli x5, x5, 2
     .word 0x002282b3  # add x5, x5, x2
-    .word 0x0c62a023  # sw x6, 192(x5)
+    .word 0x0c62a223  # sw x6, 196(x5)
     .word 0x41412283  # lw x5, 1044(x2)
-    .word 0x00228293  # addi x5, x5, 2
     .word 0x4b012303  # lw x6, 1200(x2)
     .word 0x40600333  # sub x6, x0, x6
     .word 0x00dc43b3  # xor x7, x24, x13
@@ -2946,9 +2930,8 @@ p256_sign:
     .word 0x0076c333  # xor x6, x13, x7
     .word 0x00229293  # slli x5, x5, 2
     .word 0x002282b3  # add x5, x5, x2
-    .word 0x0c62a023  # sw x6, 192(x5)
+    .word 0x0c62a423  # sw x6, 200(x5)
     .word 0x41412283  # lw x5, 1044(x2)
-    .word 0x00328293  # addi x5, x5, 3
     .word 0x4b012303  # lw x6, 1200(x2)
     .word 0x40600333  # sub x6, x0, x6
     .word 0x010943b3  # xor x7, x18, x16
@@ -2956,9 +2939,8 @@ p256_sign:
     .word 0x00784333  # xor x6, x16, x7
     .word 0x00229293  # slli x5, x5, 2
     .word 0x002282b3  # add x5, x5, x2
-    .word 0x0c62a023  # sw x6, 192(x5)
+    .word 0x0c62a623  # sw x6, 204(x5)
     .word 0x41412283  # lw x5, 1044(x2)
-    .word 0x00428293  # addi x5, x5, 4
     .word 0x4b012303  # lw x6, 1200(x2)
     .word 0x40600333  # sub x6, x0, x6
     .word 0x0159c3b3  # xor x7, x19, x21
@@ -2966,9 +2948,8 @@ p256_sign:
     .word 0x007ac333  # xor x6, x21, x7
     .word 0x00229293  # slli x5, x5, 2
     .word 0x002282b3  # add x5, x5, x2
-    .word 0x0c62a023  # sw x6, 192(x5)
+    .word 0x0c62a823  # sw x6, 208(x5)
     .word 0x41412283  # lw x5, 1044(x2)
-    .word 0x00528293  # addi x5, x5, 5
     .word 0x4b012303  # lw x6, 1200(x2)
     .word 0x40600333  # sub x6, x0, x6
     .word 0x019a43b3  # xor x7, x20, x25
@@ -2976,9 +2957,8 @@ p256_sign:
     .word 0x007cc333  # xor x6, x25, x7
     .word 0x00229293  # slli x5, x5, 2
     .word 0x002282b3  # add x5, x5, x2
-    .word 0x0c62a023  # sw x6, 192(x5)
+    .word 0x0c62aa23  # sw x6, 212(x5)
     .word 0x41412283  # lw x5, 1044(x2)
-    .word 0x00628293  # addi x5, x5, 6
     .word 0x4b012303  # lw x6, 1200(x2)
     .word 0x40600333  # sub x6, x0, x6
     .word 0x01a743b3  # xor x7, x14, x26
@@ -2986,9 +2966,8 @@ p256_sign:
     .word 0x007d4333  # xor x6, x26, x7
     .word 0x00229293  # slli x5, x5, 2
     .word 0x002282b3  # add x5, x5, x2
-    .word 0x0c62a023  # sw x6, 192(x5)
+    .word 0x0c62ac23  # sw x6, 216(x5)
     .word 0x41412283  # lw x5, 1044(x2)
-    .word 0x00728293  # addi x5, x5, 7
     .word 0x4b012303  # lw x6, 1200(x2)
     .word 0x40600333  # sub x6, x0, x6
     .word 0x01b7c3b3  # xor x7, x15, x27
@@ -2996,9 +2975,9 @@ p256_sign:
     .word 0x007dc333  # xor x6, x27, x7
     .word 0x00229293  # slli x5, x5, 2
     .word 0x002282b3  # add x5, x5, x2
-    .word 0x0c62a023  # sw x6, 192(x5)
+    .word 0x0c62ae23  # sw x6, 220(x5)
     .word 0x0040006f  # jal x0, 4
-    .word 0xeb4fe06f  # jal x0, -6476
+    .word 0xf08fe06f  # jal x0, -6392
     .word 0x33c12283  # lw x5, 828(x2)
     .word 0x04029263  # bne x5, x0, 68
     .word 0x0c012283  # lw x5, 192(x2)
@@ -3192,7 +3171,7 @@ p256_sign:
     .word 0x00537333  # and x6, x6, x5
     .word 0x006dc2b3  # xor x5, x27, x6
     .word 0x18512e23  # sw x5, 412(x2)
-    .word 0xaf8fe06f  # jal x0, -7432
+    .word 0xb4cfe06f  # jal x0, -7348
     .word 0x14012603  # lw x12, 320(x2)
     .word 0x18012483  # lw x9, 384(x2)
     .word 0x14412303  # lw x6, 324(x2)

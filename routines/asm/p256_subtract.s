@@ -1,4 +1,4 @@
-# p256_subtract: made by factc function; 223 words, 144 bytes of stack, profile 1
+# p256_subtract: made by factc 1.0.0 function; 223 words, 144 bytes of stack, profile 1
     .option push
     .option norvc
     .option norelax

@@ -1,4 +1,4 @@
-# p256_verify_scalars: made by factc function; 2854 words, 912 bytes of stack, profile 1
+# p256_verify_scalars: made by factc 1.0.0 function; 2833 words, 912 bytes of stack, profile 1
     .option push
     .option norvc
     .option norelax
@@ -994,7 +994,7 @@ p256_verify_scalars:
     .word 0x33c12283  # lw x5, 828(x2)
     .word 0x005332b3  # sltu x5, x6, x5
     .word 0x00029463  # bne x5, x0, 8
-    .word 0x1590106f  # jal x0, 6488
+    .word 0x1050106f  # jal x0, 6404
     .word 0x1c612223  # sw x6, 452(x2)
     .word 0x00130313  # addi x6, x6, 1
     .word 0x32612c23  # sw x6, 824(x2)
@@ -1027,7 +1027,7 @@ p256_verify_scalars:
     .word 0x34412283  # lw x5, 836(x2)
     .word 0x005332b3  # sltu x5, x6, x5
     .word 0x00029463  # bne x5, x0, 8
-    .word 0x0890106f  # jal x0, 6280
+    .word 0x0350106f  # jal x0, 6196
     .word 0x1c612623  # sw x6, 460(x2)
     .word 0x00130313  # addi x6, x6, 1
     .word 0x34612023  # sw x6, 832(x2)
@@ -1079,7 +1079,7 @@ p256_verify_scalars:
     .word 0x1c512a23  # sw x5, 468(x2)
     .word 0x1d012283  # lw x5, 464(x2)
     .word 0x00029463  # bne x5, x0, 8
-    .word 0x7b40106f  # jal x0, 6068
+    .word 0x7600106f  # jal x0, 5984
     .word 0x1dc12283  # lw x5, 476(x2)
     .word 0x0382f293  # andi x5, x5, 56
     .word 0x1c512e23  # sw x5, 476(x2)
@@ -1114,76 +1114,62 @@ p256_verify_scalars:
     .word 0x002b0b33  # add x22, x22, x2
     .word 0x0a0b2b03  # lw x22, 160(x22)
     .word 0x1d412283  # lw x5, 468(x2)
-    .word 0x00128293  # addi x5, x5, 1
     .word 0x00229793  # slli x15, x5, 2
     .word 0x002787b3  # add x15, x15, x2
-    .word 0x0a07a783  # lw x15, 160(x15)
+    .word 0x0a47a783  # lw x15, 164(x15)
     .word 0x1d812283  # lw x5, 472(x2)
-    .word 0x00128293  # addi x5, x5, 1
     .word 0x00229b93  # slli x23, x5, 2
     .word 0x002b8bb3  # add x23, x23, x2
-    .word 0x0a0bab83  # lw x23, 160(x23)
+    .word 0x0a4bab83  # lw x23, 164(x23)
     .word 0x1d412283  # lw x5, 468(x2)
-    .word 0x00228293  # addi x5, x5, 2
     .word 0x00229813  # slli x16, x5, 2
     .word 0x00280833  # add x16, x16, x2
-    .word 0x0a082803  # lw x16, 160(x16)
+    .word 0x0a882803  # lw x16, 168(x16)
     .word 0x1d812283  # lw x5, 472(x2)
-    .word 0x00228293  # addi x5, x5, 2
     .word 0x00229c13  # slli x24, x5, 2
     .word 0x002c0c33  # add x24, x24, x2
-    .word 0x0a0c2c03  # lw x24, 160(x24)
+    .word 0x0a8c2c03  # lw x24, 168(x24)
     .word 0x1d412283  # lw x5, 468(x2)
-    .word 0x00328293  # addi x5, x5, 3
     .word 0x00229893  # slli x17, x5, 2
     .word 0x002888b3  # add x17, x17, x2
-    .word 0x0a08a883  # lw x17, 160(x17)
+    .word 0x0ac8a883  # lw x17, 172(x17)
     .word 0x1d812283  # lw x5, 472(x2)
-    .word 0x00328293  # addi x5, x5, 3
     .word 0x00229c93  # slli x25, x5, 2
     .word 0x002c8cb3  # add x25, x25, x2
-    .word 0x0a0cac83  # lw x25, 160(x25)
+    .word 0x0accac83  # lw x25, 172(x25)
     .word 0x1d412283  # lw x5, 468(x2)
-    .word 0x00428293  # addi x5, x5, 4
     .word 0x00229913  # slli x18, x5, 2
     .word 0x00290933  # add x18, x18, x2
-    .word 0x0a092903  # lw x18, 160(x18)
+    .word 0x0b092903  # lw x18, 176(x18)
     .word 0x1d812283  # lw x5, 472(x2)
-    .word 0x00428293  # addi x5, x5, 4
     .word 0x00229d13  # slli x26, x5, 2
     .word 0x002d0d33  # add x26, x26, x2
-    .word 0x0a0d2d03  # lw x26, 160(x26)
+    .word 0x0b0d2d03  # lw x26, 176(x26)
     .word 0x1d412283  # lw x5, 468(x2)
-    .word 0x00528293  # addi x5, x5, 5
     .word 0x00229993  # slli x19, x5, 2
     .word 0x002989b3  # add x19, x19, x2
-    .word 0x0a09a983  # lw x19, 160(x19)
+    .word 0x0b49a983  # lw x19, 180(x19)
     .word 0x1d812283  # lw x5, 472(x2)
-    .word 0x00528293  # addi x5, x5, 5
     .word 0x00229d93  # slli x27, x5, 2
     .word 0x002d8db3  # add x27, x27, x2
-    .word 0x0a0dad83  # lw x27, 160(x27)
+    .word 0x0b4dad83  # lw x27, 180(x27)
     .word 0x1d412283  # lw x5, 468(x2)
-    .word 0x00628293  # addi x5, x5, 6
     .word 0x00229a13  # slli x20, x5, 2
     .word 0x002a0a33  # add x20, x20, x2
-    .word 0x0a0a2a03  # lw x20, 160(x20)
+    .word 0x0b8a2a03  # lw x20, 184(x20)
     .word 0x1d812283  # lw x5, 472(x2)
-    .word 0x00628293  # addi x5, x5, 6
     .word 0x00229293  # slli x5, x5, 2
     .word 0x002282b3  # add x5, x5, x2
-    .word 0x0a02a283  # lw x5, 160(x5)
+    .word 0x0b82a283  # lw x5, 184(x5)
     .word 0x2e512223  # sw x5, 740(x2)
     .word 0x1d412283  # lw x5, 468(x2)
-    .word 0x00728293  # addi x5, x5, 7
     .word 0x00229a93  # slli x21, x5, 2
     .word 0x002a8ab3  # add x21, x21, x2
-    .word 0x0a0aaa83  # lw x21, 160(x21)
+    .word 0x0bcaaa83  # lw x21, 188(x21)
     .word 0x1d812283  # lw x5, 472(x2)
-    .word 0x00728293  # addi x5, x5, 7
     .word 0x00229293  # slli x5, x5, 2
     .word 0x002282b3  # add x5, x5, x2
-    .word 0x0a02a283  # lw x5, 160(x5)
+    .word 0x0bc2a283  # lw x5, 188(x5)
     .word 0x2e512423  # sw x5, 744(x2)
     .word 0x036685b3  # mul x11, x13, x22
     .word 0x0366b633  # mulhu x12, x13, x22
@@ -2526,7 +2512,6 @@ p256_verify_scalars:
     .word 0x002282b3  # add x5, x5, x2
     .word 0x0a62a023  # sw x6, 160(x5)
     .word 0x1dc12283  # lw x5, 476(x2)
-    .word 0x00128293  # addi x5, x5, 1
     .word 0x1e012303  # lw x6, 480(x2)
     .word 0x40600333  # sub x6, x0, x6
     .word 0x00bbc3b3  # xor x7, x23, x11
@@ -2534,9 +2519,8 @@ p256_verify_scalars:
     .word 0x0075c333  # xor x6, x11, x7
     .word 0x00229293  # slli x5, x5, 2
     .word 0x002282b3  # add x5, x5, x2
-    .word 0x0a62a023  # sw x6, 160(x5)
+    .word 0x0a62a223  # sw x6, 164(x5)
     .word 0x1dc12283  # lw x5, 476(x2)
-    .word 0x00228293  # addi x5, x5, 2
     .word 0x1e012303  # lw x6, 480(x2)
     .word 0x40600333  # sub x6, x0, x6
     .word 0x00dc43b3  # xor x7, x24, x13
@@ -2544,9 +2528,8 @@ p256_verify_scalars:
     .word 0x0076c333  # xor x6, x13, x7
     .word 0x00229293  # slli x5, x5, 2
     .word 0x002282b3  # add x5, x5, x2
-    .word 0x0a62a023  # sw x6, 160(x5)
+    .word 0x0a62a423  # sw x6, 168(x5)
     .word 0x1dc12283  # lw x5, 476(x2)
-    .word 0x00328293  # addi x5, x5, 3
     .word 0x1e012303  # lw x6, 480(x2)
     .word 0x40600333  # sub x6, x0, x6
     .word 0x010943b3  # xor x7, x18, x16
@@ -2554,9 +2537,8 @@ p256_verify_scalars:
     .word 0x00784333  # xor x6, x16, x7
     .word 0x00229293  # slli x5, x5, 2
     .word 0x002282b3  # add x5, x5, x2
-    .word 0x0a62a023  # sw x6, 160(x5)
+    .word 0x0a62a623  # sw x6, 172(x5)
     .word 0x1dc12283  # lw x5, 476(x2)
-    .word 0x00428293  # addi x5, x5, 4
     .word 0x1e012303  # lw x6, 480(x2)
     .word 0x40600333  # sub x6, x0, x6
     .word 0x0159c3b3  # xor x7, x19, x21
@@ -2564,9 +2546,8 @@ p256_verify_scalars:
     .word 0x007ac333  # xor x6, x21, x7
     .word 0x00229293  # slli x5, x5, 2
     .word 0x002282b3  # add x5, x5, x2
-    .word 0x0a62a023  # sw x6, 160(x5)
+    .word 0x0a62a823  # sw x6, 176(x5)
     .word 0x1dc12283  # lw x5, 476(x2)
-    .word 0x00528293  # addi x5, x5, 5
     .word 0x1e012303  # lw x6, 480(x2)
     .word 0x40600333  # sub x6, x0, x6
     .word 0x019a43b3  # xor x7, x20, x25
@@ -2574,9 +2555,8 @@ p256_verify_scalars:
     .word 0x007cc333  # xor x6, x25, x7
     .word 0x00229293  # slli x5, x5, 2
     .word 0x002282b3  # add x5, x5, x2
-    .word 0x0a62a023  # sw x6, 160(x5)
+    .word 0x0a62aa23  # sw x6, 180(x5)
     .word 0x1dc12283  # lw x5, 476(x2)
-    .word 0x00628293  # addi x5, x5, 6
     .word 0x1e012303  # lw x6, 480(x2)
     .word 0x40600333  # sub x6, x0, x6
     .word 0x01a743b3  # xor x7, x14, x26
@@ -2584,9 +2564,8 @@ p256_verify_scalars:
     .word 0x007d4333  # xor x6, x26, x7
     .word 0x00229293  # slli x5, x5, 2
     .word 0x002282b3  # add x5, x5, x2
-    .word 0x0a62a023  # sw x6, 160(x5)
+    .word 0x0a62ac23  # sw x6, 184(x5)
     .word 0x1dc12283  # lw x5, 476(x2)
-    .word 0x00728293  # addi x5, x5, 7
     .word 0x1e012303  # lw x6, 480(x2)
     .word 0x40600333  # sub x6, x0, x6
     .word 0x01b7c3b3  # xor x7, x15, x27
@@ -2594,9 +2573,9 @@ p256_verify_scalars:
     .word 0x007dc333  # xor x6, x27, x7
     .word 0x00229293  # slli x5, x5, 2
     .word 0x002282b3  # add x5, x5, x2
-    .word 0x0a62a023  # sw x6, 160(x5)
+    .word 0x0a62ae23  # sw x6, 188(x5)
     .word 0x0040006f  # jal x0, 4
-    .word 0xf6cfe06f  # jal x0, -6292
+    .word 0xfc0fe06f  # jal x0, -6208
     .word 0x1c412283  # lw x5, 452(x2)
     .word 0x04029263  # bne x5, x0, 68
     .word 0x0a012283  # lw x5, 160(x2)
@@ -2615,7 +2594,7 @@ p256_verify_scalars:
     .word 0x0c512c23  # sw x5, 216(x2)
     .word 0x0bc12283  # lw x5, 188(x2)
     .word 0x0c512e23  # sw x5, 220(x2)
-    .word 0xe9cfe06f  # jal x0, -6500
+    .word 0xef0fe06f  # jal x0, -6416
     .word 0x0e012283  # lw x5, 224(x2)
     .word 0x06510fa3  # sb x5, 127(x2)
     .word 0x10012283  # lw x5, 256(x2)

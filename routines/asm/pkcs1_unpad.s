@@ -1,4 +1,4 @@
-# pkcs1_unpad: made by factc function; 1181 words, 192 bytes of stack, profile 1
+# pkcs1_unpad: made by factc 1.0.0 function; 1181 words, 192 bytes of stack, profile 1
     .option push
     .option norvc
     .option norelax

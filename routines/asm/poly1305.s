@@ -1,4 +1,4 @@
-# poly1305: made by factc function; 895 words, 304 bytes of stack, profile 1
+# poly1305: made by factc 1.0.0 function; 892 words, 304 bytes of stack, profile 1
     .option push
     .option norvc
     .option norelax
@@ -498,7 +498,7 @@ poly1305:
     .word 0x00000693  # addi x13, x0, 0
     .word 0x00469293  # slli x5, x13, 4
     .word 0x07412303  # lw x6, 116(x2)
-    .word 0x3462fe63  # bgeu x5, x6, 860
+    .word 0x3462f863  # bgeu x5, x6, 848
     .word 0x00469293  # slli x5, x13, 4
     .word 0x01028293  # addi x5, x5, 16
     .word 0x07412303  # lw x6, 116(x2)
@@ -516,10 +516,9 @@ poly1305:
     .word 0x000d0893  # addi x17, x26, 0
     .word 0x000d8d13  # addi x26, x27, 0
     .word 0x00269293  # slli x5, x13, 2
-    .word 0x00128293  # addi x5, x5, 1
     .word 0x00229d93  # slli x27, x5, 2
     .word 0x002d8db3  # add x27, x27, x2
-    .word 0x078dad83  # lw x27, 120(x27)
+    .word 0x07cdad83  # lw x27, 124(x27)
     .word 0x01bd0d33  # add x26, x26, x27
     .word 0x01bd3db3  # sltu x27, x26, x27
     .word 0x012d0d33  # add x26, x26, x18
@@ -528,10 +527,9 @@ poly1305:
     .word 0x000d0913  # addi x18, x26, 0
     .word 0x000d8d13  # addi x26, x27, 0
     .word 0x00269293  # slli x5, x13, 2
-    .word 0x00228293  # addi x5, x5, 2
     .word 0x00229d93  # slli x27, x5, 2
     .word 0x002d8db3  # add x27, x27, x2
-    .word 0x078dad83  # lw x27, 120(x27)
+    .word 0x080dad83  # lw x27, 128(x27)
     .word 0x01bd0d33  # add x26, x26, x27
     .word 0x01bd3db3  # sltu x27, x26, x27
     .word 0x013d0d33  # add x26, x26, x19
@@ -540,10 +538,9 @@ poly1305:
     .word 0x000d0993  # addi x19, x26, 0
     .word 0x000d8d13  # addi x26, x27, 0
     .word 0x00269293  # slli x5, x13, 2
-    .word 0x00328293  # addi x5, x5, 3
     .word 0x00229d93  # slli x27, x5, 2
     .word 0x002d8db3  # add x27, x27, x2
-    .word 0x078dad83  # lw x27, 120(x27)
+    .word 0x084dad83  # lw x27, 132(x27)
     .word 0x01bd0d33  # add x26, x26, x27
     .word 0x01bd3db3  # sltu x27, x26, x27
     .word 0x014d0d33  # add x26, x26, x20
@@ -715,7 +712,7 @@ poly1305:
     .word 0x01a28cb3  # add x25, x5, x26
     .word 0x00168693  # addi x13, x13, 1
     .word 0x0046b293  # sltiu x5, x13, 4
-    .word 0xc8029ae3  # bne x5, x0, -876
+    .word 0xca0290e3  # bne x5, x0, -864
     .word 0xfff68693  # addi x13, x13, -1
     .word 0x00588d13  # addi x26, x17, 5
     .word 0x011d3db3  # sltu x27, x26, x17

@@ -1,4 +1,4 @@
-# poly1305_block: made by factc function; 625 words, 208 bytes of stack, profile 1
+# poly1305_block: made by factc 1.0.0 function; 625 words, 208 bytes of stack, profile 1
     .option push
     .option norvc
     .option norelax

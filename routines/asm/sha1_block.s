@@ -1,4 +1,4 @@
-# sha1_block: made by factc function; 2091 words, 432 bytes of stack, profile 1
+# sha1_block: made by factc 1.0.0 function; 2091 words, 432 bytes of stack, profile 1
     .option push
     .option norvc
     .option norelax

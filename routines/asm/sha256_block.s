@@ -1,4 +1,4 @@
-# sha256_block: made by factc function; 3901 words, 192 bytes of stack, profile 1
+# sha256_block: made by factc 1.0.0 function; 3901 words, 192 bytes of stack, profile 1
     .option push
     .option norvc
     .option norelax

@@ -1,4 +1,4 @@
-# sha256_short: made by factc function; 2451 words, 576 bytes of stack, profile 1
+# sha256_short: made by factc 1.0.0 function; 2437 words, 576 bytes of stack, profile 1
     .option push
     .option norvc
     .option norelax
@@ -362,7 +362,7 @@ sha256_short:
     .word 0x1f412283  # lw x5, 500(x2)
     .word 0x005332b3  # sltu x5, x6, x5
     .word 0x00029463  # bne x5, x0, 8
-    .word 0x6d50106f  # jal x0, 7892
+    .word 0x69d0106f  # jal x0, 7836
     .word 0x00030513  # addi x10, x6, 0
     .word 0x00130313  # addi x6, x6, 1
     .word 0x1e612823  # sw x6, 496(x2)
@@ -1263,7 +1263,7 @@ sha256_short:
     .word 0x1fc12283  # lw x5, 508(x2)
     .word 0x005332b3  # sltu x5, x6, x5
     .word 0x00029463  # bne x5, x0, 8
-    .word 0x05c0106f  # jal x0, 4188
+    .word 0x0240106f  # jal x0, 4132
     .word 0x18612e23  # sw x6, 412(x2)
     .word 0x00130313  # addi x6, x6, 1
     .word 0x1e612c23  # sw x6, 504(x2)
@@ -1324,10 +1324,9 @@ sha256_short:
     .word 0x01134333  # xor x6, x6, x17
     .word 0x006282b3  # add x5, x5, x6
     .word 0x018282b3  # add x5, x5, x24
-    .word 0x00158313  # addi x6, x11, 1
-    .word 0x00231313  # slli x6, x6, 2
+    .word 0x00259313  # slli x6, x11, 2
     .word 0x00230333  # add x6, x6, x2
-    .word 0x09c32303  # lw x6, 156(x6)
+    .word 0x0a032303  # lw x6, 160(x6)
     .word 0x00628933  # add x18, x5, x6
     .word 0x01270733  # add x14, x14, x18
     .word 0x00c9ca33  # xor x20, x19, x12
@@ -1363,10 +1362,9 @@ sha256_short:
     .word 0x01034333  # xor x6, x6, x16
     .word 0x006282b3  # add x5, x5, x6
     .word 0x019282b3  # add x5, x5, x25
-    .word 0x00258313  # addi x6, x11, 2
-    .word 0x00231313  # slli x6, x6, 2
+    .word 0x00259313  # slli x6, x11, 2
     .word 0x00230333  # add x6, x6, x2
-    .word 0x09c32303  # lw x6, 156(x6)
+    .word 0x0a432303  # lw x6, 164(x6)
     .word 0x006288b3  # add x17, x5, x6
     .word 0x011686b3  # add x13, x13, x17
     .word 0x01394ab3  # xor x21, x18, x19
@@ -1402,10 +1400,9 @@ sha256_short:
     .word 0x00f34333  # xor x6, x6, x15
     .word 0x006282b3  # add x5, x5, x6
     .word 0x01a282b3  # add x5, x5, x26
-    .word 0x00358313  # addi x6, x11, 3
-    .word 0x00231313  # slli x6, x6, 2
+    .word 0x00259313  # slli x6, x11, 2
     .word 0x00230333  # add x6, x6, x2
-    .word 0x09c32303  # lw x6, 156(x6)
+    .word 0x0a832303  # lw x6, 168(x6)
     .word 0x00628833  # add x16, x5, x6
     .word 0x01060633  # add x12, x12, x16
     .word 0x0128ca33  # xor x20, x17, x18
@@ -1442,10 +1439,9 @@ sha256_short:
     .word 0x006282b3  # add x5, x5, x6
     .word 0x1c012303  # lw x6, 448(x2)
     .word 0x006282b3  # add x5, x5, x6
-    .word 0x00458313  # addi x6, x11, 4
-    .word 0x00231313  # slli x6, x6, 2
+    .word 0x00259313  # slli x6, x11, 2
     .word 0x00230333  # add x6, x6, x2
-    .word 0x09c32303  # lw x6, 156(x6)
+    .word 0x0ac32303  # lw x6, 172(x6)
     .word 0x006287b3  # add x15, x5, x6
     .word 0x00f989b3  # add x19, x19, x15
     .word 0x01184ab3  # xor x21, x16, x17
@@ -1482,10 +1478,9 @@ sha256_short:
     .word 0x006282b3  # add x5, x5, x6
     .word 0x1c412303  # lw x6, 452(x2)
     .word 0x006282b3  # add x5, x5, x6
-    .word 0x00558313  # addi x6, x11, 5
-    .word 0x00231313  # slli x6, x6, 2
+    .word 0x00259313  # slli x6, x11, 2
     .word 0x00230333  # add x6, x6, x2
-    .word 0x09c32303  # lw x6, 156(x6)
+    .word 0x0b032303  # lw x6, 176(x6)
     .word 0x00628733  # add x14, x5, x6
     .word 0x00e90933  # add x18, x18, x14
     .word 0x0107ca33  # xor x20, x15, x16
@@ -1522,10 +1517,9 @@ sha256_short:
     .word 0x006282b3  # add x5, x5, x6
     .word 0x1c812303  # lw x6, 456(x2)
     .word 0x006282b3  # add x5, x5, x6
-    .word 0x00658313  # addi x6, x11, 6
-    .word 0x00231313  # slli x6, x6, 2
+    .word 0x00259313  # slli x6, x11, 2
     .word 0x00230333  # add x6, x6, x2
-    .word 0x09c32303  # lw x6, 156(x6)
+    .word 0x0b432303  # lw x6, 180(x6)
     .word 0x006286b3  # add x13, x5, x6
     .word 0x00d888b3  # add x17, x17, x13
     .word 0x00f74ab3  # xor x21, x14, x15
@@ -1562,10 +1556,9 @@ sha256_short:
     .word 0x006282b3  # add x5, x5, x6
     .word 0x1cc12303  # lw x6, 460(x2)
     .word 0x006282b3  # add x5, x5, x6
-    .word 0x00758313  # addi x6, x11, 7
-    .word 0x00231313  # slli x6, x6, 2
+    .word 0x00259313  # slli x6, x11, 2
     .word 0x00230333  # add x6, x6, x2
-    .word 0x09c32303  # lw x6, 156(x6)
+    .word 0x0b832303  # lw x6, 184(x6)
     .word 0x00628633  # add x12, x5, x6
     .word 0x00c80833  # add x16, x16, x12
     .word 0x00e6ca33  # xor x20, x13, x14
@@ -1644,10 +1637,9 @@ sha256_short:
     .word 0x006282b3  # add x5, x5, x6
     .word 0x1d412303  # lw x6, 468(x2)
     .word 0x006282b3  # add x5, x5, x6
-    .word 0x00158313  # addi x6, x11, 1
-    .word 0x00231313  # slli x6, x6, 2
+    .word 0x00259313  # slli x6, x11, 2
     .word 0x00230333  # add x6, x6, x2
-    .word 0x09c32303  # lw x6, 156(x6)
+    .word 0x0a032303  # lw x6, 160(x6)
     .word 0x00628933  # add x18, x5, x6
     .word 0x01270733  # add x14, x14, x18
     .word 0x00c9ca33  # xor x20, x19, x12
@@ -1684,10 +1676,9 @@ sha256_short:
     .word 0x006282b3  # add x5, x5, x6
     .word 0x1d812303  # lw x6, 472(x2)
     .word 0x006282b3  # add x5, x5, x6
-    .word 0x00258313  # addi x6, x11, 2
-    .word 0x00231313  # slli x6, x6, 2
+    .word 0x00259313  # slli x6, x11, 2
     .word 0x00230333  # add x6, x6, x2
-    .word 0x09c32303  # lw x6, 156(x6)
+    .word 0x0a432303  # lw x6, 164(x6)
     .word 0x006288b3  # add x17, x5, x6
     .word 0x011686b3  # add x13, x13, x17
     .word 0x01394ab3  # xor x21, x18, x19
@@ -1724,10 +1715,9 @@ sha256_short:
     .word 0x006282b3  # add x5, x5, x6
     .word 0x1dc12303  # lw x6, 476(x2)
     .word 0x006282b3  # add x5, x5, x6
-    .word 0x00358313  # addi x6, x11, 3
-    .word 0x00231313  # slli x6, x6, 2
+    .word 0x00259313  # slli x6, x11, 2
     .word 0x00230333  # add x6, x6, x2
-    .word 0x09c32303  # lw x6, 156(x6)
+    .word 0x0a832303  # lw x6, 168(x6)
     .word 0x00628833  # add x16, x5, x6
     .word 0x01060633  # add x12, x12, x16
     .word 0x0128ca33  # xor x20, x17, x18
@@ -1764,10 +1754,9 @@ sha256_short:
     .word 0x006282b3  # add x5, x5, x6
     .word 0x1e012303  # lw x6, 480(x2)
     .word 0x006282b3  # add x5, x5, x6
-    .word 0x00458313  # addi x6, x11, 4
-    .word 0x00231313  # slli x6, x6, 2
+    .word 0x00259313  # slli x6, x11, 2
     .word 0x00230333  # add x6, x6, x2
-    .word 0x09c32303  # lw x6, 156(x6)
+    .word 0x0ac32303  # lw x6, 172(x6)
     .word 0x006287b3  # add x15, x5, x6
     .word 0x00f989b3  # add x19, x19, x15
     .word 0x01184ab3  # xor x21, x16, x17
@@ -1804,10 +1793,9 @@ sha256_short:
     .word 0x006282b3  # add x5, x5, x6
     .word 0x1e412303  # lw x6, 484(x2)
     .word 0x006282b3  # add x5, x5, x6
-    .word 0x00558313  # addi x6, x11, 5
-    .word 0x00231313  # slli x6, x6, 2
+    .word 0x00259313  # slli x6, x11, 2
     .word 0x00230333  # add x6, x6, x2
-    .word 0x09c32303  # lw x6, 156(x6)
+    .word 0x0b032303  # lw x6, 176(x6)
     .word 0x00628733  # add x14, x5, x6
     .word 0x00e90933  # add x18, x18, x14
     .word 0x0107ca33  # xor x20, x15, x16
@@ -1844,10 +1832,9 @@ sha256_short:
     .word 0x006282b3  # add x5, x5, x6
     .word 0x1e812303  # lw x6, 488(x2)
     .word 0x006282b3  # add x5, x5, x6
-    .word 0x00658313  # addi x6, x11, 6
-    .word 0x00231313  # slli x6, x6, 2
+    .word 0x00259313  # slli x6, x11, 2
     .word 0x00230333  # add x6, x6, x2
-    .word 0x09c32303  # lw x6, 156(x6)
+    .word 0x0b432303  # lw x6, 180(x6)
     .word 0x006286b3  # add x13, x5, x6
     .word 0x00d888b3  # add x17, x17, x13
     .word 0x00f74ab3  # xor x21, x14, x15
@@ -1883,10 +1870,9 @@ sha256_short:
     .word 0x01334333  # xor x6, x6, x19
     .word 0x006282b3  # add x5, x5, x6
     .word 0x01b282b3  # add x5, x5, x27
-    .word 0x00758313  # addi x6, x11, 7
-    .word 0x00231313  # slli x6, x6, 2
+    .word 0x00259313  # slli x6, x11, 2
     .word 0x00230333  # add x6, x6, x2
-    .word 0x09c32303  # lw x6, 156(x6)
+    .word 0x0b832303  # lw x6, 184(x6)
     .word 0x00628633  # add x12, x5, x6
     .word 0x00c80833  # add x16, x16, x12
     .word 0x00e6ca33  # xor x20, x13, x14
@@ -2309,7 +2295,7 @@ sha256_short:
     .word 0x006d82b3  # add x5, x27, x6
     .word 0x01528ab3  # add x21, x5, x21
     .word 0x016a8db3  # add x27, x21, x22
-    .word 0xf99fe06f  # jal x0, -4200
+    .word 0xfd1fe06f  # jal x0, -4144
     .word 0x1a012283  # lw x5, 416(x2)
     .word 0x00c282b3  # add x5, x5, x12
     .word 0x1a512023  # sw x5, 416(x2)
@@ -2334,7 +2320,7 @@ sha256_short:
     .word 0x1bc12283  # lw x5, 444(x2)
     .word 0x013282b3  # add x5, x5, x19
     .word 0x1a512e23  # sw x5, 444(x2)
-    .word 0x920fe06f  # jal x0, -7904
+    .word 0x958fe06f  # jal x0, -7848
     .word 0x1a012a83  # lw x21, 416(x2)
     .word 0x018ad293  # srli x5, x21, 24
     .word 0x06510e23  # sb x5, 124(x2)

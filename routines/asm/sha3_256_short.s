@@ -1,4 +1,4 @@
-# sha3_256_short: made by factc 1.0.0 function; 2462 words, 736 bytes of stack, profile 1
+# sha3_256_short: made by factc 1.0.0 function; 2461 words, 736 bytes of stack, profile 1
     .option push
     .option norvc
     .option norelax
@@ -1593,7 +1593,7 @@ sha3_256_short:
     .word 0x29412283  # lw x5, 660(x2)
     .word 0x005332b3  # sltu x5, x6, x5
     .word 0x00029463  # bne x5, x0, 8
-    .word 0x37d0006f  # jal x0, 2940
+    .word 0x3790006f  # jal x0, 2936
     .word 0x20612e23  # sw x6, 540(x2)
     .word 0x00130313  # addi x6, x6, 1
     .word 0x28612823  # sw x6, 656(x2)
@@ -1783,10 +1783,9 @@ sha3_256_short:
     .word 0x006642b3  # xor x5, x12, x6
     .word 0x21c12303  # lw x6, 540(x2)
     .word 0x00131313  # slli x6, x6, 1
-    .word 0x00130313  # addi x6, x6, 1
     .word 0x00231313  # slli x6, x6, 2
     .word 0x00230333  # add x6, x6, x2
-    .word 0x0ac32303  # lw x6, 172(x6)
+    .word 0x0b032303  # lw x6, 176(x6)
     .word 0x0062c2b3  # xor x5, x5, x6
     .word 0x1e512423  # sw x5, 488(x2)
     .word 0x41600333  # sub x6, x0, x22
@@ -2327,7 +2326,7 @@ sha3_256_short:
     .word 0x1e512423  # sw x5, 488(x2)
     .word 0x1ed12623  # sw x13, 492(x2)
     .word 0x1ec12823  # sw x12, 496(x2)
-    .word 0xc78ff06f  # jal x0, -2952
+    .word 0xc7cff06f  # jal x0, -2948
     .word 0x000b0793  # addi x15, x22, 0
     .word 0x23712023  # sw x23, 544(x2)
     .word 0x16c12283  # lw x5, 364(x2)

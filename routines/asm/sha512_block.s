@@ -1,4 +1,4 @@
-# sha512_block: made by factc function; 3531 words, 816 bytes of stack, profile 1
+# sha512_block: made by factc 1.0.0 function; 3531 words, 816 bytes of stack, profile 1
     .option push
     .option norvc
     .option norelax

@@ -1,4 +1,4 @@
-# siphash24: made by factc 1.0.0 function; 466 words, 176 bytes of stack, profile 1
+# siphash24: made by factc 1.0.0 function; 462 words, 176 bytes of stack, profile 1
     .option push
     .option norvc
     .option norelax
@@ -216,14 +216,14 @@ siphash24:
     .word 0x06412283  # lw x5, 100(x2)
     .word 0x005332b3  # sltu x5, x6, x5
     .word 0x00029463  # bne x5, x0, 8
-    .word 0x2bc0006f  # jal x0, 700
+    .word 0x2ac0006f  # jal x0, 684
     .word 0x00030a13  # addi x20, x6, 0
     .word 0x00000a93  # addi x21, x0, 0
     .word 0x00000b13  # addi x22, x0, 0
     .word 0x013a32b3  # sltu x5, x20, x19
     .word 0x008a3313  # sltiu x6, x20, 8
     .word 0x0062f2b3  # and x5, x5, x6
-    .word 0x14028063  # beq x5, x0, 320
+    .word 0x12028863  # beq x5, x0, 304
     .word 0x003a1b93  # slli x23, x20, 3
     .word 0x012bb2b3  # sltu x5, x23, x18
     .word 0x03fbb313  # sltiu x6, x23, 63
@@ -235,10 +235,9 @@ siphash24:
     .word 0x0122b2b3  # sltu x5, x5, x18
     .word 0x03bbb313  # sltiu x6, x23, 59
     .word 0x0062f2b3  # and x5, x5, x6
-    .word 0x00028863  # beq x5, x0, 16
-    .word 0x004b8293  # addi x5, x23, 4
-    .word 0x00228b33  # add x22, x5, x2
-    .word 0x010b4b03  # lbu x22, 16(x22)
+    .word 0x00028663  # beq x5, x0, 12
+    .word 0x002b8b33  # add x22, x23, x2
+    .word 0x014b4b03  # lbu x22, 20(x22)
     .word 0x003a1293  # slli x5, x20, 3
     .word 0x00128b93  # addi x23, x5, 1
     .word 0x012bb2b3  # sltu x5, x23, x18
@@ -253,10 +252,9 @@ siphash24:
     .word 0x0122b2b3  # sltu x5, x5, x18
     .word 0x03bbb313  # sltiu x6, x23, 59
     .word 0x0062f2b3  # and x5, x5, x6
-    .word 0x00028c63  # beq x5, x0, 24
-    .word 0x004b8313  # addi x6, x23, 4
-    .word 0x00230333  # add x6, x6, x2
-    .word 0x01034303  # lbu x6, 16(x6)
+    .word 0x00028a63  # beq x5, x0, 20
+    .word 0x002b8333  # add x6, x23, x2
+    .word 0x01434303  # lbu x6, 20(x6)
     .word 0x00831313  # slli x6, x6, 8
     .word 0x006b6b33  # or x22, x22, x6
     .word 0x003a1293  # slli x5, x20, 3
@@ -273,10 +271,9 @@ siphash24:
     .word 0x0122b2b3  # sltu x5, x5, x18
     .word 0x03bbb313  # sltiu x6, x23, 59
     .word 0x0062f2b3  # and x5, x5, x6
-    .word 0x00028c63  # beq x5, x0, 24
-    .word 0x004b8313  # addi x6, x23, 4
-    .word 0x00230333  # add x6, x6, x2
-    .word 0x01034303  # lbu x6, 16(x6)
+    .word 0x00028a63  # beq x5, x0, 20
+    .word 0x002b8333  # add x6, x23, x2
+    .word 0x01434303  # lbu x6, 20(x6)
     .word 0x01031313  # slli x6, x6, 16
     .word 0x006b6b33  # or x22, x22, x6
     .word 0x003a1293  # slli x5, x20, 3
@@ -293,10 +290,9 @@ siphash24:
     .word 0x0122b2b3  # sltu x5, x5, x18
     .word 0x03bbb313  # sltiu x6, x23, 59
     .word 0x0062f2b3  # and x5, x5, x6
-    .word 0x00028c63  # beq x5, x0, 24
-    .word 0x004b8313  # addi x6, x23, 4
-    .word 0x00230333  # add x6, x6, x2
-    .word 0x01034303  # lbu x6, 16(x6)
+    .word 0x00028a63  # beq x5, x0, 20
+    .word 0x002b8333  # add x6, x23, x2
+    .word 0x01434303  # lbu x6, 20(x6)
     .word 0x01831313  # slli x6, x6, 24
     .word 0x006b6b33  # or x22, x22, x6
     .word 0x001a0293  # addi x5, x20, 1
@@ -388,7 +384,7 @@ siphash24:
     .word 0x001a0a13  # addi x20, x20, 1
     .word 0x06412283  # lw x5, 100(x2)
     .word 0x005a32b3  # sltu x5, x20, x5
-    .word 0xd4029ce3  # bne x5, x0, -680
+    .word 0xd60294e3  # bne x5, x0, -664
     .word 0xfffa0a13  # addi x20, x20, -1
     .word 0x0040006f  # jal x0, 4
     .word 0x00c542b3  # xor x5, x10, x12

@@ -1,4 +1,4 @@
-# sort_32: made by factc function; 667 words, 176 bytes of stack, profile 1
+# sort_32: made by factc 1.0.0 function; 667 words, 176 bytes of stack, profile 1
     .option push
     .option norvc
     .option norelax

@@ -1,4 +1,4 @@
-# speck64_decrypt: made by factc function; 611 words, 144 bytes of stack, profile 1
+# speck64_decrypt: made by factc 1.0.0 function; 611 words, 144 bytes of stack, profile 1
     .option push
     .option norvc
     .option norelax

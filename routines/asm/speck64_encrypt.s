@@ -1,4 +1,4 @@
-# speck64_encrypt: made by factc function; 545 words, 48 bytes of stack, profile 1
+# speck64_encrypt: made by factc 1.0.0 function; 545 words, 48 bytes of stack, profile 1
     .option push
     .option norvc
     .option norelax

@@ -1,4 +1,4 @@
-# swap_32: made by factc function; 454 words, 112 bytes of stack, profile 1
+# swap_32: made by factc 1.0.0 function; 454 words, 112 bytes of stack, profile 1
     .option push
     .option norvc
     .option norelax

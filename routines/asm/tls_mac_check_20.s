@@ -1,4 +1,4 @@
-# tls_mac_check_20: made by factc function; 1118 words, 448 bytes of stack, profile 1
+# tls_mac_check_20: made by factc 1.0.0 function; 1118 words, 448 bytes of stack, profile 1
     .option push
     .option norvc
     .option norelax

@@ -1,4 +1,4 @@
-# tls_mac_check_32: made by factc function; 1261 words, 592 bytes of stack, profile 1
+# tls_mac_check_32: made by factc 1.0.0 function; 1261 words, 592 bytes of stack, profile 1
     .option push
     .option norvc
     .option norelax

@@ -1,4 +1,4 @@
-/* lookup_bytes_32: made by factc function.
+/* lookup_bytes_32: made by factc 1.0.0 function.
    Arrays are aligned by their elements, lie outside the stack below the caller, and no two that are not const overlap.
    For an observer of profile 1: neither the instructions that it executes, nor the addresses of its loads and stores,
    nor the operands of its divisions depend on secret arguments. Nothing is proved of time. */

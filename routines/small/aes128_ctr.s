@@ -1,4 +1,4 @@
-# aes128_ctr: made by factc 1.0.0 function; 1155 words, 992 bytes of stack, profile 1
+# aes128_ctr: made by factc 1.0.0 function; 1154 words, 992 bytes of stack, profile 1
     .option push
     .option norvc
     .option norelax
@@ -259,7 +259,7 @@ aes128_ctr:
     .word 0x38012283  # lw x5, 896(x2)
     .word 0x005332b3  # sltu x5, x6, x5
     .word 0x00029463  # bne x5, x0, 8
-    .word 0x4310006f  # jal x0, 3120
+    .word 0x42d0006f  # jal x0, 3116
     .word 0x2a612423  # sw x6, 680(x2)
     .word 0x00130313  # addi x6, x6, 1
     .word 0x36612e23  # sw x6, 892(x2)
@@ -464,7 +464,7 @@ aes128_ctr:
     .word 0x38812283  # lw x5, 904(x2)
     .word 0x005332b3  # sltu x5, x6, x5
     .word 0x00029463  # bne x5, x0, 8
-    .word 0x5c80006f  # jal x0, 1480
+    .word 0x5c40006f  # jal x0, 1476
     .word 0x2a612e23  # sw x6, 700(x2)
     .word 0x00130313  # addi x6, x6, 1
     .word 0x38612223  # sw x6, 900(x2)
@@ -727,7 +727,7 @@ aes128_ctr:
     .word 0xfffa8a93  # addi x21, x21, -1
     .word 0x2bc12283  # lw x5, 700(x2)
     .word 0x00a00313  # addi x6, x0, 10
-    .word 0x1662f063  # bgeu x5, x6, 352
+    .word 0x1462fe63  # bgeu x5, x6, 348
     .word 0x30000313  # addi x6, x0, 768
     .word 0x00230333  # add x6, x6, x2
     .word 0x02000393  # addi x7, x0, 32
@@ -803,17 +803,16 @@ aes128_ctr:
     .word 0x002c9313  # slli x6, x25, 2
     .word 0x00230333  # add x6, x6, x2
     .word 0x32032303  # lw x6, 800(x6)
-    .word 0xfffc8393  # addi x7, x25, -1
-    .word 0x00239393  # slli x7, x7, 2
+    .word 0x002c9393  # slli x7, x25, 2
     .word 0x002383b3  # add x7, x7, x2
-    .word 0x3003a383  # lw x7, 768(x7)
+    .word 0x2fc3a383  # lw x7, 764(x7)
     .word 0x00734333  # xor x6, x6, x7
     .word 0x002c9293  # slli x5, x25, 2
     .word 0x002282b3  # add x5, x5, x2
     .word 0x2662aa23  # sw x6, 628(x5)
     .word 0x001c8c93  # addi x25, x25, 1
     .word 0x008cb293  # sltiu x5, x25, 8
-    .word 0xfc0296e3  # bne x5, x0, -52
+    .word 0xfc0298e3  # bne x5, x0, -48
     .word 0xfffc8c93  # addi x25, x25, -1
     .word 0x2bc12283  # lw x5, 700(x2)
     .word 0x00329d13  # slli x26, x5, 3
@@ -833,7 +832,7 @@ aes128_ctr:
     .word 0x008db293  # sltiu x5, x27, 8
     .word 0xfc0296e3  # bne x5, x0, -52
     .word 0xfffd8d93  # addi x27, x27, -1
-    .word 0xa2dff06f  # jal x0, -1492
+    .word 0xa31ff06f  # jal x0, -1488
     .word 0x38012223  # sw x0, 900(x2)
     .word 0x00400293  # addi x5, x0, 4
     .word 0x38512423  # sw x5, 904(x2)
@@ -1038,7 +1037,7 @@ aes128_ctr:
     .word 0x002d02b3  # add x5, x26, x2
     .word 0x16628823  # sb x6, 368(x5)
     .word 0xf81ff06f  # jal x0, -128
-    .word 0xbc4ff06f  # jal x0, -3132
+    .word 0xbc8ff06f  # jal x0, -3128
     .word 0x2a012283  # lw x5, 672(x2)
     .word 0x2a412303  # lw x6, 676(x2)
     .word 0x00f30313  # addi x6, x6, 15

@@ -1,4 +1,4 @@
-# aes128_decrypt: made by factc function; 1186 words, 688 bytes of stack, profile 1
+# aes128_decrypt: made by factc 1.0.0 function; 1182 words, 688 bytes of stack, profile 1
     .option push
     .option norvc
     .option norelax
@@ -177,7 +177,7 @@ aes128_decrypt:
     .word 0x25c12283  # lw x5, 604(x2)
     .word 0x005332b3  # sltu x5, x6, x5
     .word 0x00029463  # bne x5, x0, 8
-    .word 0x0740006f  # jal x0, 116
+    .word 0x06c0006f  # jal x0, 108
     .word 0x1e612223  # sw x6, 484(x2)
     .word 0x00130313  # addi x6, x6, 1
     .word 0x24612c23  # sw x6, 600(x2)
@@ -185,9 +185,8 @@ aes128_decrypt:
     .word 0x002282b3  # add x5, x5, x2
     .word 0x0102c283  # lbu x5, 16(x5)
     .word 0x1e412303  # lw x6, 484(x2)
-    .word 0x00830313  # addi x6, x6, 8
     .word 0x00230333  # add x6, x6, x2
-    .word 0x01034303  # lbu x6, 16(x6)
+    .word 0x01834303  # lbu x6, 24(x6)
     .word 0x00831313  # slli x6, x6, 8
     .word 0x0062e533  # or x10, x5, x6
     .word 0x1e412283  # lw x5, 484(x2)
@@ -195,9 +194,8 @@ aes128_decrypt:
     .word 0x0002c283  # lbu x5, 0(x5)
     .word 0x01029293  # slli x5, x5, 16
     .word 0x1e412303  # lw x6, 484(x2)
-    .word 0x00830313  # addi x6, x6, 8
     .word 0x00230333  # add x6, x6, x2
-    .word 0x00034303  # lbu x6, 0(x6)
+    .word 0x00834303  # lbu x6, 8(x6)
     .word 0x01831313  # slli x6, x6, 24
     .word 0x0062e933  # or x18, x5, x6
     .word 0x1e412283  # lw x5, 484(x2)
@@ -205,7 +203,7 @@ aes128_decrypt:
     .word 0x00229293  # slli x5, x5, 2
     .word 0x002282b3  # add x5, x5, x2
     .word 0x0462a023  # sw x6, 64(x5)
-    .word 0xf81ff06f  # jal x0, -128
+    .word 0xf89ff06f  # jal x0, -120
     .word 0x04012283  # lw x5, 64(x2)
     .word 0x0012d293  # srli x5, x5, 1
     .word 0x04412303  # lw x6, 68(x2)
@@ -394,7 +392,7 @@ aes128_decrypt:
     .word 0x25c12283  # lw x5, 604(x2)
     .word 0x005332b3  # sltu x5, x6, x5
     .word 0x00029463  # bne x5, x0, 8
-    .word 0x0ad0006f  # jal x0, 2220
+    .word 0x0a90006f  # jal x0, 2216
     .word 0x1e612623  # sw x6, 492(x2)
     .word 0x00130313  # addi x6, x6, 1
     .word 0x24612c23  # sw x6, 600(x2)
@@ -740,7 +738,7 @@ aes128_decrypt:
     .word 0x02b12023  # sw x11, 32(x2)
     .word 0x1ec12283  # lw x5, 492(x2)
     .word 0x00a00313  # addi x6, x0, 10
-    .word 0x0c62f263  # bgeu x5, x6, 196
+    .word 0x0c62f063  # bgeu x5, x6, 192
     .word 0x00000793  # addi x15, x0, 0
     .word 0x1ec12283  # lw x5, 492(x2)
     .word 0x00329293  # slli x5, x5, 3
@@ -768,16 +766,15 @@ aes128_decrypt:
     .word 0x006542b3  # xor x5, x10, x6
     .word 0x24c12303  # lw x6, 588(x2)
     .word 0x0062f533  # and x10, x5, x6
-    .word 0x00880293  # addi x5, x16, 8
-    .word 0x00229293  # slli x5, x5, 2
+    .word 0x00281293  # slli x5, x16, 2
     .word 0x002282b3  # add x5, x5, x2
-    .word 0x08a2a023  # sw x10, 128(x5)
+    .word 0x0aa2a023  # sw x10, 160(x5)
     .word 0x00279293  # slli x5, x15, 2
     .word 0x002282b3  # add x5, x5, x2
     .word 0x02a2a023  # sw x10, 32(x5)
     .word 0x00178793  # addi x15, x15, 1
     .word 0x0087b293  # sltiu x5, x15, 8
-    .word 0xf6029ae3  # bne x5, x0, -140
+    .word 0xf6029ce3  # bne x5, x0, -136
     .word 0xfff78793  # addi x15, x15, -1
     .word 0x1e012283  # lw x5, 480(x2)
     .word 0x00129293  # slli x5, x5, 1
@@ -948,7 +945,7 @@ aes128_decrypt:
     .word 0x008ab293  # sltiu x5, x21, 8
     .word 0xf4029ce3  # bne x5, x0, -168
     .word 0xfffa8a93  # addi x21, x21, -1
-    .word 0xf48ff06f  # jal x0, -2232
+    .word 0xf4cff06f  # jal x0, -2228
     .word 0x02012283  # lw x5, 32(x2)
     .word 0x0012d293  # srli x5, x5, 1
     .word 0x02412303  # lw x6, 36(x2)
@@ -1112,7 +1109,7 @@ aes128_decrypt:
     .word 0x25c12283  # lw x5, 604(x2)
     .word 0x005332b3  # sltu x5, x6, x5
     .word 0x00029463  # bne x5, x0, 8
-    .word 0x0440006f  # jal x0, 68
+    .word 0x0400006f  # jal x0, 64
     .word 0x22612e23  # sw x6, 572(x2)
     .word 0x00130313  # addi x6, x6, 1
     .word 0x24612c23  # sw x6, 600(x2)
@@ -1124,11 +1121,10 @@ aes128_decrypt:
     .word 0x002282b3  # add x5, x5, x2
     .word 0x00a28823  # sb x10, 16(x5)
     .word 0x23c12283  # lw x5, 572(x2)
-    .word 0x00828293  # addi x5, x5, 8
     .word 0x00855313  # srli x6, x10, 8
     .word 0x002282b3  # add x5, x5, x2
-    .word 0x00628823  # sb x6, 16(x5)
-    .word 0xfb1ff06f  # jal x0, -80
+    .word 0x00628c23  # sb x6, 24(x5)
+    .word 0xfb5ff06f  # jal x0, -76
     # the result
     .word 0x00000513  # addi x10, x0, 0
     # parameter 1: the array, back

@@ -1,4 +1,4 @@
-# aes128_encrypt: made by factc function; 939 words, 320 bytes of stack, profile 1
+# aes128_encrypt: made by factc 1.0.0 function; 936 words, 320 bytes of stack, profile 1
     .option push
     .option norvc
     .option norelax
@@ -168,7 +168,7 @@ aes128_encrypt:
     .word 0x0ec12283  # lw x5, 236(x2)
     .word 0x005332b3  # sltu x5, x6, x5
     .word 0x00029463  # bne x5, x0, 8
-    .word 0x0740006f  # jal x0, 116
+    .word 0x06c0006f  # jal x0, 108
     .word 0x08612023  # sw x6, 128(x2)
     .word 0x00130313  # addi x6, x6, 1
     .word 0x0e612423  # sw x6, 232(x2)
@@ -176,9 +176,8 @@ aes128_encrypt:
     .word 0x002282b3  # add x5, x5, x2
     .word 0x0102c283  # lbu x5, 16(x5)
     .word 0x08012303  # lw x6, 128(x2)
-    .word 0x00830313  # addi x6, x6, 8
     .word 0x00230333  # add x6, x6, x2
-    .word 0x01034303  # lbu x6, 16(x6)
+    .word 0x01834303  # lbu x6, 24(x6)
     .word 0x00831313  # slli x6, x6, 8
     .word 0x0062ecb3  # or x25, x5, x6
     .word 0x08012283  # lw x5, 128(x2)
@@ -186,9 +185,8 @@ aes128_encrypt:
     .word 0x0002c283  # lbu x5, 0(x5)
     .word 0x01029293  # slli x5, x5, 16
     .word 0x08012303  # lw x6, 128(x2)
-    .word 0x00830313  # addi x6, x6, 8
     .word 0x00230333  # add x6, x6, x2
-    .word 0x00034303  # lbu x6, 0(x6)
+    .word 0x00834303  # lbu x6, 8(x6)
     .word 0x01831313  # slli x6, x6, 24
     .word 0x0062ec33  # or x24, x5, x6
     .word 0x08012283  # lw x5, 128(x2)
@@ -196,7 +194,7 @@ aes128_encrypt:
     .word 0x00229293  # slli x5, x5, 2
     .word 0x002282b3  # add x5, x5, x2
     .word 0x0262a023  # sw x6, 32(x5)
-    .word 0xf81ff06f  # jal x0, -128
+    .word 0xf89ff06f  # jal x0, -120
     .word 0x02012283  # lw x5, 32(x2)
     .word 0x0012d293  # srli x5, x5, 1
     .word 0x02412303  # lw x6, 36(x2)
@@ -878,7 +876,7 @@ aes128_encrypt:
     .word 0x0ec12283  # lw x5, 236(x2)
     .word 0x005332b3  # sltu x5, x6, x5
     .word 0x00029463  # bne x5, x0, 8
-    .word 0x0440006f  # jal x0, 68
+    .word 0x0400006f  # jal x0, 64
     .word 0x0c612223  # sw x6, 196(x2)
     .word 0x00130313  # addi x6, x6, 1
     .word 0x0e612423  # sw x6, 232(x2)
@@ -890,11 +888,10 @@ aes128_encrypt:
     .word 0x002282b3  # add x5, x5, x2
     .word 0x01928823  # sb x25, 16(x5)
     .word 0x0c412283  # lw x5, 196(x2)
-    .word 0x00828293  # addi x5, x5, 8
     .word 0x008cd313  # srli x6, x25, 8
     .word 0x002282b3  # add x5, x5, x2
-    .word 0x00628823  # sb x6, 16(x5)
-    .word 0xfb1ff06f  # jal x0, -80
+    .word 0x00628c23  # sb x6, 24(x5)
+    .word 0xfb5ff06f  # jal x0, -76
     # the result
     .word 0x00000513  # addi x10, x0, 0
     # parameter 1: the array, back

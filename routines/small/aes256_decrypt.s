@@ -1,4 +1,4 @@
-# aes256_decrypt: made by factc function; 1346 words, 832 bytes of stack, profile 1
+# aes256_decrypt: made by factc 1.0.0 function; 1339 words, 832 bytes of stack, profile 1
     .option push
     .option norvc
     .option norelax
@@ -187,7 +187,7 @@ aes256_decrypt:
     .word 0x2ec12283  # lw x5, 748(x2)
     .word 0x005332b3  # sltu x5, x6, x5
     .word 0x00029463  # bne x5, x0, 8
-    .word 0x0ac0006f  # jal x0, 172
+    .word 0x09c0006f  # jal x0, 156
     .word 0x26612a23  # sw x6, 628(x2)
     .word 0x00130313  # addi x6, x6, 1
     .word 0x2e612423  # sw x6, 744(x2)
@@ -195,9 +195,8 @@ aes256_decrypt:
     .word 0x002282b3  # add x5, x5, x2
     .word 0x0202c283  # lbu x5, 32(x5)
     .word 0x27412303  # lw x6, 628(x2)
-    .word 0x00830313  # addi x6, x6, 8
     .word 0x00230333  # add x6, x6, x2
-    .word 0x02034303  # lbu x6, 32(x6)
+    .word 0x02834303  # lbu x6, 40(x6)
     .word 0x00831313  # slli x6, x6, 8
     .word 0x0062e5b3  # or x11, x5, x6
     .word 0x27412283  # lw x5, 628(x2)
@@ -205,9 +204,8 @@ aes256_decrypt:
     .word 0x0002c283  # lbu x5, 0(x5)
     .word 0x01029293  # slli x5, x5, 16
     .word 0x27412303  # lw x6, 628(x2)
-    .word 0x00830313  # addi x6, x6, 8
     .word 0x00230333  # add x6, x6, x2
-    .word 0x00034303  # lbu x6, 0(x6)
+    .word 0x00834303  # lbu x6, 8(x6)
     .word 0x01831313  # slli x6, x6, 24
     .word 0x0062e9b3  # or x19, x5, x6
     .word 0x27412283  # lw x5, 628(x2)
@@ -217,19 +215,17 @@ aes256_decrypt:
     .word 0x0462a823  # sw x6, 80(x5)
     .word 0x27412283  # lw x5, 628(x2)
     .word 0x27412303  # lw x6, 628(x2)
-    .word 0x01030313  # addi x6, x6, 16
     .word 0x00230333  # add x6, x6, x2
-    .word 0x00034303  # lbu x6, 0(x6)
+    .word 0x01034303  # lbu x6, 16(x6)
     .word 0x27412383  # lw x7, 628(x2)
-    .word 0x01838393  # addi x7, x7, 24
     .word 0x002383b3  # add x7, x7, x2
-    .word 0x0003c383  # lbu x7, 0(x7)
+    .word 0x0183c383  # lbu x7, 24(x7)
     .word 0x00839393  # slli x7, x7, 8
     .word 0x00736333  # or x6, x6, x7
     .word 0x00229293  # slli x5, x5, 2
     .word 0x002282b3  # add x5, x5, x2
     .word 0x0262a823  # sw x6, 48(x5)
-    .word 0xf49ff06f  # jal x0, -184
+    .word 0xf59ff06f  # jal x0, -168
     .word 0x05012283  # lw x5, 80(x2)
     .word 0x0012d293  # srli x5, x5, 1
     .word 0x05412303  # lw x6, 84(x2)
@@ -549,7 +545,7 @@ aes256_decrypt:
     .word 0x2ec12283  # lw x5, 748(x2)
     .word 0x005332b3  # sltu x5, x6, x5
     .word 0x00029463  # bne x5, x0, 8
-    .word 0x05c0006f  # jal x0, 92
+    .word 0x0580006f  # jal x0, 88
     .word 0x26612c23  # sw x6, 632(x2)
     .word 0x00130313  # addi x6, x6, 1
     .word 0x2e612423  # sw x6, 744(x2)
@@ -563,15 +559,14 @@ aes256_decrypt:
     .word 0x002282b3  # add x5, x5, x2
     .word 0x08b2a823  # sw x11, 144(x5)
     .word 0x27812283  # lw x5, 632(x2)
-    .word 0x00828293  # addi x5, x5, 8
     .word 0x27812303  # lw x6, 632(x2)
     .word 0x00231313  # slli x6, x6, 2
     .word 0x00230333  # add x6, x6, x2
     .word 0x03032303  # lw x6, 48(x6)
     .word 0x00229293  # slli x5, x5, 2
     .word 0x002282b3  # add x5, x5, x2
-    .word 0x0862a823  # sw x6, 144(x5)
-    .word 0xf99ff06f  # jal x0, -104
+    .word 0x0a62a823  # sw x6, 176(x5)
+    .word 0xf9dff06f  # jal x0, -100
     .word 0x00000493  # addi x9, x0, 0
     .word 0x00d00313  # addi x6, x0, 13
     .word 0x06649e63  # bne x9, x6, 124
@@ -913,7 +908,7 @@ aes256_decrypt:
     .word 0x03812a23  # sw x24, 52(x2)
     .word 0x02c12823  # sw x12, 48(x2)
     .word 0x00d00313  # addi x6, x0, 13
-    .word 0x0a64fe63  # bgeu x9, x6, 188
+    .word 0x0a64fc63  # bgeu x9, x6, 184
     .word 0x00000813  # addi x16, x0, 0
     .word 0x00349293  # slli x5, x9, 3
     .word 0x010288b3  # add x17, x5, x16
@@ -942,16 +937,15 @@ aes256_decrypt:
     .word 0x0065c2b3  # xor x5, x11, x6
     .word 0x2dc12303  # lw x6, 732(x2)
     .word 0x0062f5b3  # and x11, x5, x6
-    .word 0x01088293  # addi x5, x17, 16
-    .word 0x00229293  # slli x5, x5, 2
+    .word 0x00289293  # slli x5, x17, 2
     .word 0x002282b3  # add x5, x5, x2
-    .word 0x08b2a823  # sw x11, 144(x5)
+    .word 0x0cb2a823  # sw x11, 208(x5)
     .word 0x00281293  # slli x5, x16, 2
     .word 0x002282b3  # add x5, x5, x2
     .word 0x02b2a823  # sw x11, 48(x5)
     .word 0x00180813  # addi x16, x16, 1
     .word 0x00883293  # sltiu x5, x16, 8
-    .word 0xf60298e3  # bne x5, x0, -144
+    .word 0xf6029ae3  # bne x5, x0, -140
     .word 0xfff80813  # addi x16, x16, -1
     .word 0x0014f293  # andi x5, x9, 1
     .word 0x00100313  # addi x6, x0, 1
@@ -1120,7 +1114,7 @@ aes256_decrypt:
     .word 0xfffb0b13  # addi x22, x22, -1
     .word 0x00148493  # addi x9, x9, 1
     .word 0x01b4b293  # sltiu x5, x9, 27
-    .word 0xf6029a63  # bne x5, x0, -2188
+    .word 0xf6029c63  # bne x5, x0, -2184
     .word 0xfff48493  # addi x9, x9, -1
     .word 0x03012283  # lw x5, 48(x2)
     .word 0x0012d293  # srli x5, x5, 1
@@ -1285,7 +1279,7 @@ aes256_decrypt:
     .word 0x2ec12283  # lw x5, 748(x2)
     .word 0x005332b3  # sltu x5, x6, x5
     .word 0x00029463  # bne x5, x0, 8
-    .word 0x0440006f  # jal x0, 68
+    .word 0x0400006f  # jal x0, 64
     .word 0x2c612423  # sw x6, 712(x2)
     .word 0x00130313  # addi x6, x6, 1
     .word 0x2e612423  # sw x6, 744(x2)
@@ -1297,11 +1291,10 @@ aes256_decrypt:
     .word 0x002282b3  # add x5, x5, x2
     .word 0x02b28023  # sb x11, 32(x5)
     .word 0x2c812283  # lw x5, 712(x2)
-    .word 0x00828293  # addi x5, x5, 8
     .word 0x0085d313  # srli x6, x11, 8
     .word 0x002282b3  # add x5, x5, x2
-    .word 0x02628023  # sb x6, 32(x5)
-    .word 0xfb1ff06f  # jal x0, -80
+    .word 0x02628423  # sb x6, 40(x5)
+    .word 0xfb5ff06f  # jal x0, -76
     # the result
     .word 0x00000513  # addi x10, x0, 0
     # parameter 1: the array, back

@@ -1,4 +1,4 @@
-# aes256_decrypt_2: made by factc 1.0.0 function; 1073 words, 848 bytes of stack, profile 1
+# aes256_decrypt_2: made by factc 1.0.0 function; 1072 words, 848 bytes of stack, profile 1
     .option push
     .option norvc
     .option norelax
@@ -338,7 +338,7 @@ aes256_decrypt_2:
     .word 0x30412283  # lw x5, 772(x2)
     .word 0x005332b3  # sltu x5, x6, x5
     .word 0x00029463  # bne x5, x0, 8
-    .word 0x0390006f  # jal x0, 2104
+    .word 0x0350006f  # jal x0, 2100
     .word 0x22612a23  # sw x6, 564(x2)
     .word 0x00130313  # addi x6, x6, 1
     .word 0x30612023  # sw x6, 768(x2)
@@ -703,7 +703,7 @@ aes256_decrypt_2:
     .word 0xfffc0c13  # addi x24, x24, -1
     .word 0x23412283  # lw x5, 564(x2)
     .word 0x00d00313  # addi x6, x0, 13
-    .word 0x2862f063  # bgeu x5, x6, 640
+    .word 0x2662fe63  # bgeu x5, x6, 636
     .word 0x27800313  # addi x6, x0, 632
     .word 0x00230333  # add x6, x6, x2
     .word 0x02000393  # addi x7, x0, 32
@@ -851,19 +851,18 @@ aes256_decrypt_2:
     .word 0x002d9313  # slli x6, x27, 2
     .word 0x00230333  # add x6, x6, x2
     .word 0x2b832303  # lw x6, 696(x6)
-    .word 0xfffd8393  # addi x7, x27, -1
-    .word 0x00239393  # slli x7, x7, 2
+    .word 0x002d9393  # slli x7, x27, 2
     .word 0x002383b3  # add x7, x7, x2
-    .word 0x2983a383  # lw x7, 664(x7)
+    .word 0x2943a383  # lw x7, 660(x7)
     .word 0x00734333  # xor x6, x6, x7
     .word 0x002d9293  # slli x5, x27, 2
     .word 0x002282b3  # add x5, x5, x2
     .word 0x2062a023  # sw x6, 512(x5)
     .word 0x001d8d93  # addi x27, x27, 1
     .word 0x008db293  # sltiu x5, x27, 8
-    .word 0xfc0296e3  # bne x5, x0, -52
+    .word 0xfc0298e3  # bne x5, x0, -48
     .word 0xfffd8d93  # addi x27, x27, -1
-    .word 0xfbcff06f  # jal x0, -2116
+    .word 0xfc0ff06f  # jal x0, -2112
     .word 0x30012023  # sw x0, 768(x2)
     .word 0x00400293  # addi x5, x0, 4
     .word 0x30512223  # sw x5, 772(x2)

@@ -1,4 +1,4 @@
-# aes256_encrypt: made by factc function; 1146 words, 368 bytes of stack, profile 1
+# aes256_encrypt: made by factc 1.0.0 function; 1141 words, 368 bytes of stack, profile 1
     .option push
     .option norvc
     .option norelax
@@ -184,7 +184,7 @@ aes256_encrypt:
     .word 0x11c12283  # lw x5, 284(x2)
     .word 0x005332b3  # sltu x5, x6, x5
     .word 0x00029463  # bne x5, x0, 8
-    .word 0x0b00006f  # jal x0, 176
+    .word 0x0a00006f  # jal x0, 160
     .word 0x0a612823  # sw x6, 176(x2)
     .word 0x00130313  # addi x6, x6, 1
     .word 0x10612c23  # sw x6, 280(x2)
@@ -192,9 +192,8 @@ aes256_encrypt:
     .word 0x002282b3  # add x5, x5, x2
     .word 0x0202c283  # lbu x5, 32(x5)
     .word 0x0b012303  # lw x6, 176(x2)
-    .word 0x00830313  # addi x6, x6, 8
     .word 0x00230333  # add x6, x6, x2
-    .word 0x02034303  # lbu x6, 32(x6)
+    .word 0x02834303  # lbu x6, 40(x6)
     .word 0x00831313  # slli x6, x6, 8
     .word 0x0062ec33  # or x24, x5, x6
     .word 0x0b012283  # lw x5, 176(x2)
@@ -202,9 +201,8 @@ aes256_encrypt:
     .word 0x0002c283  # lbu x5, 0(x5)
     .word 0x01029293  # slli x5, x5, 16
     .word 0x0b012303  # lw x6, 176(x2)
-    .word 0x00830313  # addi x6, x6, 8
     .word 0x00230333  # add x6, x6, x2
-    .word 0x00034303  # lbu x6, 0(x6)
+    .word 0x00834303  # lbu x6, 8(x6)
     .word 0x01831313  # slli x6, x6, 24
     .word 0x0062ecb3  # or x25, x5, x6
     .word 0x0b012283  # lw x5, 176(x2)
@@ -214,20 +212,18 @@ aes256_encrypt:
     .word 0x0262a823  # sw x6, 48(x5)
     .word 0x0b012283  # lw x5, 176(x2)
     .word 0x0b012303  # lw x6, 176(x2)
-    .word 0x01030313  # addi x6, x6, 16
     .word 0x00230333  # add x6, x6, x2
-    .word 0x00034303  # lbu x6, 0(x6)
+    .word 0x01034303  # lbu x6, 16(x6)
     .word 0x01031313  # slli x6, x6, 16
     .word 0x0b012383  # lw x7, 176(x2)
-    .word 0x01838393  # addi x7, x7, 24
     .word 0x002383b3  # add x7, x7, x2
-    .word 0x0003c383  # lbu x7, 0(x7)
+    .word 0x0183c383  # lbu x7, 24(x7)
     .word 0x01839393  # slli x7, x7, 24
     .word 0x00736333  # or x6, x6, x7
     .word 0x00229293  # slli x5, x5, 2
     .word 0x002282b3  # add x5, x5, x2
     .word 0x0662a823  # sw x6, 112(x5)
-    .word 0xf45ff06f  # jal x0, -188
+    .word 0xf55ff06f  # jal x0, -172
     .word 0x03012283  # lw x5, 48(x2)
     .word 0x0012d293  # srli x5, x5, 1
     .word 0x03412303  # lw x6, 52(x2)
@@ -1072,7 +1068,7 @@ aes256_encrypt:
     .word 0x11c12283  # lw x5, 284(x2)
     .word 0x005332b3  # sltu x5, x6, x5
     .word 0x00029463  # bne x5, x0, 8
-    .word 0x0440006f  # jal x0, 68
+    .word 0x0400006f  # jal x0, 64
     .word 0x0e612a23  # sw x6, 244(x2)
     .word 0x00130313  # addi x6, x6, 1
     .word 0x10612c23  # sw x6, 280(x2)
@@ -1084,11 +1080,10 @@ aes256_encrypt:
     .word 0x002282b3  # add x5, x5, x2
     .word 0x03828023  # sb x24, 32(x5)
     .word 0x0f412283  # lw x5, 244(x2)
-    .word 0x00828293  # addi x5, x5, 8
     .word 0x008c5313  # srli x6, x24, 8
     .word 0x002282b3  # add x5, x5, x2
-    .word 0x02628023  # sb x6, 32(x5)
-    .word 0xfb1ff06f  # jal x0, -80
+    .word 0x02628423  # sb x6, 40(x5)
+    .word 0xfb5ff06f  # jal x0, -76
     # the result
     .word 0x00000513  # addi x10, x0, 0
     # parameter 1: the array, back

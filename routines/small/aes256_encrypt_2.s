@@ -1,4 +1,4 @@
-# aes256_encrypt_2: made by factc 1.0.0 function; 915 words, 816 bytes of stack, profile 1
+# aes256_encrypt_2: made by factc 1.0.0 function; 914 words, 816 bytes of stack, profile 1
     .option push
     .option norvc
     .option norelax
@@ -338,7 +338,7 @@ aes256_encrypt_2:
     .word 0x2e012283  # lw x5, 736(x2)
     .word 0x005332b3  # sltu x5, x6, x5
     .word 0x00029463  # bne x5, x0, 8
-    .word 0x5a00006f  # jal x0, 1440
+    .word 0x59c0006f  # jal x0, 1436
     .word 0x22612a23  # sw x6, 564(x2)
     .word 0x00130313  # addi x6, x6, 1
     .word 0x2c612e23  # sw x6, 732(x2)
@@ -591,7 +591,7 @@ aes256_encrypt_2:
     .word 0xfffa8a93  # addi x21, x21, -1
     .word 0x23412283  # lw x5, 564(x2)
     .word 0x00e00313  # addi x6, x0, 14
-    .word 0x1662f063  # bgeu x5, x6, 352
+    .word 0x1462fe63  # bgeu x5, x6, 348
     .word 0x27400313  # addi x6, x0, 628
     .word 0x00230333  # add x6, x6, x2
     .word 0x02000393  # addi x7, x0, 32
@@ -667,17 +667,16 @@ aes256_encrypt_2:
     .word 0x002c9313  # slli x6, x25, 2
     .word 0x00230333  # add x6, x6, x2
     .word 0x29432303  # lw x6, 660(x6)
-    .word 0xfffc8393  # addi x7, x25, -1
-    .word 0x00239393  # slli x7, x7, 2
+    .word 0x002c9393  # slli x7, x25, 2
     .word 0x002383b3  # add x7, x7, x2
-    .word 0x2743a383  # lw x7, 628(x7)
+    .word 0x2703a383  # lw x7, 624(x7)
     .word 0x00734333  # xor x6, x6, x7
     .word 0x002c9293  # slli x5, x25, 2
     .word 0x002282b3  # add x5, x5, x2
     .word 0x2062a023  # sw x6, 512(x5)
     .word 0x001c8c93  # addi x25, x25, 1
     .word 0x008cb293  # sltiu x5, x25, 8
-    .word 0xfc0296e3  # bne x5, x0, -52
+    .word 0xfc0298e3  # bne x5, x0, -48
     .word 0xfffc8c93  # addi x25, x25, -1
     .word 0x23412283  # lw x5, 564(x2)
     .word 0x00329d13  # slli x26, x5, 3
@@ -697,7 +696,7 @@ aes256_encrypt_2:
     .word 0x008db293  # sltiu x5, x27, 8
     .word 0xfc0296e3  # bne x5, x0, -52
     .word 0xfffd8d93  # addi x27, x27, -1
-    .word 0xa55ff06f  # jal x0, -1452
+    .word 0xa59ff06f  # jal x0, -1448
     .word 0x2c012e23  # sw x0, 732(x2)
     .word 0x00400293  # addi x5, x0, 4
     .word 0x2e512023  # sw x5, 736(x2)

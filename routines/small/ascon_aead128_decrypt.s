@@ -1,4 +1,4 @@
-# ascon_aead128_decrypt: made by factc function; 863 words, 400 bytes of stack, profile 1
+# ascon_aead128_decrypt: made by factc 1.0.0 function; 852 words, 400 bytes of stack, profile 1
     .option push
     .option norvc
     .option norelax
@@ -287,7 +287,7 @@ ascon_aead128_decrypt:
     .word 0x13012283  # lw x5, 304(x2)
     .word 0x005332b3  # sltu x5, x6, x5
     .word 0x00029463  # bne x5, x0, 8
-    .word 0x1040006f  # jal x0, 260
+    .word 0x0e80006f  # jal x0, 232
     .word 0x0e612c23  # sw x6, 248(x2)
     .word 0x00130313  # addi x6, x6, 1
     .word 0x12612623  # sw x6, 300(x2)
@@ -301,57 +301,50 @@ ascon_aead128_decrypt:
     .word 0x40628533  # sub x10, x5, x6
     .word 0x002502b3  # add x5, x10, x2
     .word 0x0002c283  # lbu x5, 0(x5)
-    .word 0x00150313  # addi x6, x10, 1
-    .word 0x00230333  # add x6, x6, x2
-    .word 0x00034303  # lbu x6, 0(x6)
+    .word 0x00250333  # add x6, x10, x2
+    .word 0x00134303  # lbu x6, 1(x6)
     .word 0x00831313  # slli x6, x6, 8
     .word 0x0062e8b3  # or x17, x5, x6
     .word 0x0f812283  # lw x5, 248(x2)
-    .word 0x00250393  # addi x7, x10, 2
-    .word 0x002383b3  # add x7, x7, x2
-    .word 0x0003c383  # lbu x7, 0(x7)
+    .word 0x002503b3  # add x7, x10, x2
+    .word 0x0023c383  # lbu x7, 2(x7)
     .word 0x01039393  # slli x7, x7, 16
     .word 0x0078e333  # or x6, x17, x7
-    .word 0x00350393  # addi x7, x10, 3
-    .word 0x002383b3  # add x7, x7, x2
-    .word 0x0003c383  # lbu x7, 0(x7)
+    .word 0x002503b3  # add x7, x10, x2
+    .word 0x0033c383  # lbu x7, 3(x7)
     .word 0x01839393  # slli x7, x7, 24
     .word 0x00736333  # or x6, x6, x7
     .word 0x00229293  # slli x5, x5, 2
     .word 0x002282b3  # add x5, x5, x2
     .word 0x0e62a023  # sw x6, 224(x5)
     .word 0x0f812283  # lw x5, 248(x2)
-    .word 0x00228293  # addi x5, x5, 2
     .word 0x0f812303  # lw x6, 248(x2)
     .word 0x00231313  # slli x6, x6, 2
     .word 0x00230333  # add x6, x6, x2
     .word 0x0e032303  # lw x6, 224(x6)
     .word 0x00229293  # slli x5, x5, 2
     .word 0x002282b3  # add x5, x5, x2
-    .word 0x0a62ac23  # sw x6, 184(x5)
+    .word 0x0c62a023  # sw x6, 192(x5)
     .word 0x0f812283  # lw x5, 248(x2)
     .word 0x00628593  # addi x11, x5, 6
     .word 0x002502b3  # add x5, x10, x2
     .word 0x0102c283  # lbu x5, 16(x5)
-    .word 0x00150313  # addi x6, x10, 1
-    .word 0x00230333  # add x6, x6, x2
-    .word 0x01034303  # lbu x6, 16(x6)
+    .word 0x00250333  # add x6, x10, x2
+    .word 0x01134303  # lbu x6, 17(x6)
     .word 0x00831313  # slli x6, x6, 8
     .word 0x0062e8b3  # or x17, x5, x6
-    .word 0x00250393  # addi x7, x10, 2
-    .word 0x002383b3  # add x7, x7, x2
-    .word 0x0103c383  # lbu x7, 16(x7)
+    .word 0x002503b3  # add x7, x10, x2
+    .word 0x0123c383  # lbu x7, 18(x7)
     .word 0x01039393  # slli x7, x7, 16
     .word 0x0078e333  # or x6, x17, x7
-    .word 0x00350393  # addi x7, x10, 3
-    .word 0x002383b3  # add x7, x7, x2
-    .word 0x0103c383  # lbu x7, 16(x7)
+    .word 0x002503b3  # add x7, x10, x2
+    .word 0x0133c383  # lbu x7, 19(x7)
     .word 0x01839393  # slli x7, x7, 24
     .word 0x00736333  # or x6, x6, x7
     .word 0x00259293  # slli x5, x11, 2
     .word 0x002282b3  # add x5, x5, x2
     .word 0x0a62ac23  # sw x6, 184(x5)
-    .word 0xef1ff06f  # jal x0, -272
+    .word 0xf0dff06f  # jal x0, -244
     .word 0x0f412283  # lw x5, 244(x2)
     .word 0x0012b293  # sltiu x5, x5, 1
     .word 0x00000313  # addi x6, x0, 0
@@ -742,7 +735,7 @@ ascon_aead128_decrypt:
     .word 0x13012283  # lw x5, 304(x2)
     .word 0x005332b3  # sltu x5, x6, x5
     .word 0x00029463  # bne x5, x0, 8
-    .word 0x0940006f  # jal x0, 148
+    .word 0x0840006f  # jal x0, 132
     .word 0x10612c23  # sw x6, 280(x2)
     .word 0x00130313  # addi x6, x6, 1
     .word 0x12612623  # sw x6, 300(x2)
@@ -756,29 +749,25 @@ ascon_aead128_decrypt:
     .word 0x40628533  # sub x10, x5, x6
     .word 0x002502b3  # add x5, x10, x2
     .word 0x0a82c283  # lbu x5, 168(x5)
-    .word 0x00150313  # addi x6, x10, 1
-    .word 0x00230333  # add x6, x6, x2
-    .word 0x0a834303  # lbu x6, 168(x6)
+    .word 0x00250333  # add x6, x10, x2
+    .word 0x0a934303  # lbu x6, 169(x6)
     .word 0x00831313  # slli x6, x6, 8
     .word 0x0062ebb3  # or x23, x5, x6
-    .word 0x00250313  # addi x6, x10, 2
-    .word 0x00230333  # add x6, x6, x2
-    .word 0x0a834303  # lbu x6, 168(x6)
+    .word 0x00250333  # add x6, x10, x2
+    .word 0x0aa34303  # lbu x6, 170(x6)
     .word 0x01031313  # slli x6, x6, 16
     .word 0x006be2b3  # or x5, x23, x6
-    .word 0x00350313  # addi x6, x10, 3
-    .word 0x00230333  # add x6, x6, x2
-    .word 0x0a834303  # lbu x6, 168(x6)
+    .word 0x00250333  # add x6, x10, x2
+    .word 0x0ab34303  # lbu x6, 171(x6)
     .word 0x01831313  # slli x6, x6, 24
     .word 0x0062ebb3  # or x23, x5, x6
     .word 0x11812303  # lw x6, 280(x2)
-    .word 0x00630313  # addi x6, x6, 6
     .word 0x00231313  # slli x6, x6, 2
     .word 0x00230333  # add x6, x6, x2
-    .word 0x0b832303  # lw x6, 184(x6)
+    .word 0x0d032303  # lw x6, 208(x6)
     .word 0x01734333  # xor x6, x6, x23
     .word 0x0068e8b3  # or x17, x17, x6
-    .word 0xf61ff06f  # jal x0, -160
+    .word 0xf71ff06f  # jal x0, -144
     .word 0x0018b293  # sltiu x5, x17, 1
     .word 0x10512e23  # sw x5, 284(x2)
     .word 0x12012623  # sw x0, 300(x2)

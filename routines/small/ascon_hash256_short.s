@@ -1,4 +1,4 @@
-# ascon_hash256_short: made by factc function; 498 words, 320 bytes of stack, profile 1
+# ascon_hash256_short: made by factc 1.0.0 function; 498 words, 320 bytes of stack, profile 1
     .option push
     .option norvc
     .option norelax

@@ -1,4 +1,4 @@
-# base64_encode: made by factc function; 340 words, 160 bytes of stack, profile 1
+# base64_encode: made by factc 1.0.0 function; 332 words, 160 bytes of stack, profile 1
     .option push
     .option norvc
     .option norelax
@@ -127,22 +127,20 @@ base64_encode:
     .word 0x00351293  # slli x5, x10, 3
     .word 0x00259313  # slli x6, x11, 2
     .word 0x006286b3  # add x13, x5, x6
-    .word 0x1e967a63  # bgeu x12, x9, 500
+    .word 0x1e967063  # bgeu x12, x9, 480
     .word 0x002602b3  # add x5, x12, x2
     .word 0x0002c283  # lbu x5, 0(x5)
     .word 0x01029713  # slli x14, x5, 16
     .word 0x00160293  # addi x5, x12, 1
-    .word 0x0092fc63  # bgeu x5, x9, 24
-    .word 0x00160313  # addi x6, x12, 1
-    .word 0x00230333  # add x6, x6, x2
-    .word 0x00034303  # lbu x6, 0(x6)
+    .word 0x0092fa63  # bgeu x5, x9, 20
+    .word 0x00260333  # add x6, x12, x2
+    .word 0x00134303  # lbu x6, 1(x6)
     .word 0x00831313  # slli x6, x6, 8
     .word 0x00676733  # or x14, x14, x6
     .word 0x00260293  # addi x5, x12, 2
-    .word 0x0092fa63  # bgeu x5, x9, 20
-    .word 0x00260313  # addi x6, x12, 2
-    .word 0x00230333  # add x6, x6, x2
-    .word 0x00034303  # lbu x6, 0(x6)
+    .word 0x0092f863  # bgeu x5, x9, 16
+    .word 0x00260333  # add x6, x12, x2
+    .word 0x00234303  # lbu x6, 2(x6)
     .word 0x00676733  # or x14, x14, x6
     .word 0x01275793  # srli x15, x14, 18
     .word 0x04178813  # addi x16, x15, 65
@@ -191,9 +189,8 @@ base64_encode:
     .word 0x00680833  # add x16, x16, x6
     .word 0x002682b3  # add x5, x13, x2
     .word 0x03128a23  # sb x17, 52(x5)
-    .word 0x00168293  # addi x5, x13, 1
-    .word 0x002282b3  # add x5, x5, x2
-    .word 0x03028a23  # sb x16, 52(x5)
+    .word 0x002682b3  # add x5, x13, x2
+    .word 0x03028aa3  # sb x16, 53(x5)
     .word 0x00675293  # srli x5, x14, 6
     .word 0x03f2f793  # andi x15, x5, 63
     .word 0x04178813  # addi x16, x15, 65
@@ -220,9 +217,8 @@ base64_encode:
     .word 0x00260313  # addi x6, x12, 2
     .word 0x0064f463  # bgeu x9, x6, 8
     .word 0x03d00813  # addi x16, x0, 61
-    .word 0x00268293  # addi x5, x13, 2
-    .word 0x002282b3  # add x5, x5, x2
-    .word 0x03028a23  # sb x16, 52(x5)
+    .word 0x002682b3  # add x5, x13, x2
+    .word 0x03028b23  # sb x16, 54(x5)
     .word 0x03f77813  # andi x16, x14, 63
     .word 0x04180713  # addi x14, x16, 65
     .word 0x01a83313  # sltiu x6, x16, 26
@@ -248,32 +244,28 @@ base64_encode:
     .word 0x00360313  # addi x6, x12, 3
     .word 0x0064f463  # bgeu x9, x6, 8
     .word 0x03d00813  # addi x16, x0, 61
-    .word 0x00368293  # addi x5, x13, 3
-    .word 0x002282b3  # add x5, x5, x2
-    .word 0x03028a23  # sb x16, 52(x5)
-    .word 0x0400006f  # jal x0, 64
+    .word 0x002682b3  # add x5, x13, x2
+    .word 0x03028ba3  # sb x16, 55(x5)
+    .word 0x0340006f  # jal x0, 52
     .word 0x00000313  # addi x6, x0, 0
     .word 0x002682b3  # add x5, x13, x2
     .word 0x02628a23  # sb x6, 52(x5)
-    .word 0x00168293  # addi x5, x13, 1
     .word 0x00000313  # addi x6, x0, 0
-    .word 0x002282b3  # add x5, x5, x2
-    .word 0x02628a23  # sb x6, 52(x5)
-    .word 0x00268293  # addi x5, x13, 2
+    .word 0x002682b3  # add x5, x13, x2
+    .word 0x02628aa3  # sb x6, 53(x5)
     .word 0x00000313  # addi x6, x0, 0
-    .word 0x002282b3  # add x5, x5, x2
-    .word 0x02628a23  # sb x6, 52(x5)
-    .word 0x00368293  # addi x5, x13, 3
+    .word 0x002682b3  # add x5, x13, x2
+    .word 0x02628b23  # sb x6, 54(x5)
     .word 0x00000313  # addi x6, x0, 0
-    .word 0x002282b3  # add x5, x5, x2
-    .word 0x02628a23  # sb x6, 52(x5)
+    .word 0x002682b3  # add x5, x13, x2
+    .word 0x02628ba3  # sb x6, 55(x5)
     .word 0x00158593  # addi x11, x11, 1
     .word 0x0025b293  # sltiu x5, x11, 2
-    .word 0xda0294e3  # bne x5, x0, -600
+    .word 0xdc0294e3  # bne x5, x0, -568
     .word 0xfff58593  # addi x11, x11, -1
     .word 0x00150513  # addi x10, x10, 1
     .word 0x00853293  # sltiu x5, x10, 8
-    .word 0xd8029ae3  # bne x5, x0, -620
+    .word 0xda029ae3  # bne x5, x0, -588
     .word 0xfff50513  # addi x10, x10, -1
     # the result
     .word 0x00000513  # addi x10, x0, 0

@@ -1,4 +1,4 @@
-# blake2s_block: made by factc function; 624 words, 288 bytes of stack, profile 1
+# blake2s_block: made by factc 1.0.0 function; 621 words, 288 bytes of stack, profile 1
     .option push
     .option norvc
     .option norelax
@@ -139,7 +139,7 @@ blake2s_block:
     .word 0x0c012283  # lw x5, 192(x2)
     .word 0x005332b3  # sltu x5, x6, x5
     .word 0x00029463  # bne x5, x0, 8
-    .word 0x0700006f  # jal x0, 112
+    .word 0x0640006f  # jal x0, 100
     .word 0x0a612623  # sw x6, 172(x2)
     .word 0x00130313  # addi x6, x6, 1
     .word 0x0a612e23  # sw x6, 188(x2)
@@ -147,18 +147,15 @@ blake2s_block:
     .word 0x00229c93  # slli x25, x5, 2
     .word 0x002c82b3  # add x5, x25, x2
     .word 0x0202c283  # lbu x5, 32(x5)
-    .word 0x001c8313  # addi x6, x25, 1
-    .word 0x00230333  # add x6, x6, x2
-    .word 0x02034303  # lbu x6, 32(x6)
+    .word 0x002c8333  # add x6, x25, x2
+    .word 0x02134303  # lbu x6, 33(x6)
     .word 0x00831313  # slli x6, x6, 8
     .word 0x0062e433  # or x8, x5, x6
-    .word 0x002c8293  # addi x5, x25, 2
-    .word 0x002282b3  # add x5, x5, x2
-    .word 0x0202c283  # lbu x5, 32(x5)
+    .word 0x002c82b3  # add x5, x25, x2
+    .word 0x0222c283  # lbu x5, 34(x5)
     .word 0x01029293  # slli x5, x5, 16
-    .word 0x003c8313  # addi x6, x25, 3
-    .word 0x00230333  # add x6, x6, x2
-    .word 0x02034303  # lbu x6, 32(x6)
+    .word 0x002c8333  # add x6, x25, x2
+    .word 0x02334303  # lbu x6, 35(x6)
     .word 0x01831313  # slli x6, x6, 24
     .word 0x0062e4b3  # or x9, x5, x6
     .word 0x0ac12283  # lw x5, 172(x2)
@@ -166,7 +163,7 @@ blake2s_block:
     .word 0x00229293  # slli x5, x5, 2
     .word 0x002282b3  # add x5, x5, x2
     .word 0x0662a623  # sw x6, 108(x5)
-    .word 0xf85ff06f  # jal x0, -124
+    .word 0xf91ff06f  # jal x0, -112
     .word 0x00012403  # lw x8, 0(x2)
     .word 0x00412483  # lw x9, 4(x2)
     .word 0x00812503  # lw x10, 8(x2)

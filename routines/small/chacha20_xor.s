@@ -1,4 +1,4 @@
-# chacha20_xor: made by factc function; 606 words, 320 bytes of stack, profile 1
+# chacha20_xor: made by factc 1.0.0 function; 606 words, 320 bytes of stack, profile 1
     .option push
     .option norvc
     .option norelax

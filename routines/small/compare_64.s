@@ -1,4 +1,4 @@
-# compare_64: made by factc function; 80 words, 48 bytes of stack, profile 1
+# compare_64: made by factc 1.0.0 function; 80 words, 48 bytes of stack, profile 1
     .option push
     .option norvc
     .option norelax

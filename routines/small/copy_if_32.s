@@ -1,4 +1,4 @@
-# copy_if_32: made by factc function; 179 words, 112 bytes of stack, profile 1
+# copy_if_32: made by factc 1.0.0 function; 179 words, 112 bytes of stack, profile 1
     .option push
     .option norvc
     .option norelax

@@ -1,4 +1,4 @@
-# divide_32: made by factc function; 89 words, 80 bytes of stack, profile 1
+# divide_32: made by factc 1.0.0 function; 89 words, 80 bytes of stack, profile 1
     .option push
     .option norvc
     .option norelax

@@ -1,4 +1,4 @@
-# ed25519_decode: made by factc function; 1380 words, 1536 bytes of stack, profile 1
+# ed25519_decode: made by factc 1.0.0 function; 1372 words, 1536 bytes of stack, profile 1
     .option push
     .option norvc
     .option norelax
@@ -512,7 +512,7 @@ ed25519_decode:
     .word 0x59c12283  # lw x5, 1436(x2)
     .word 0x005332b3  # sltu x5, x6, x5
     .word 0x00029463  # bne x5, x0, 8
-    .word 0x7240006f  # jal x0, 1828
+    .word 0x7040006f  # jal x0, 1796
     .word 0x32612823  # sw x6, 816(x2)
     .word 0x00130313  # addi x6, x6, 1
     .word 0x58612c23  # sw x6, 1432(x2)
@@ -542,7 +542,7 @@ ed25519_decode:
     .word 0x0063c5b3  # xor x11, x7, x6
     .word 0x33012283  # lw x5, 816(x2)
     .word 0x00c00313  # addi x6, x0, 12
-    .word 0x04629e63  # bne x5, x6, 92
+    .word 0x04629c63  # bne x5, x6, 88
     .word 0x5a012023  # sw x0, 1440(x2)
     .word 0x00800293  # addi x5, x0, 8
     .word 0x5a512223  # sw x5, 1444(x2)
@@ -550,28 +550,27 @@ ed25519_decode:
     .word 0x5a412283  # lw x5, 1444(x2)
     .word 0x005332b3  # sltu x5, x6, x5
     .word 0x00029463  # bne x5, x0, 8
-    .word 0x03c0006f  # jal x0, 60
+    .word 0x0380006f  # jal x0, 56
     .word 0x32612e23  # sw x6, 828(x2)
     .word 0x00130313  # addi x6, x6, 1
     .word 0x5a612023  # sw x6, 1440(x2)
     .word 0x33c12283  # lw x5, 828(x2)
     .word 0x05028293  # addi x5, x5, 80
     .word 0x33c12303  # lw x6, 828(x2)
-    .word 0x00830313  # addi x6, x6, 8
     .word 0x00231313  # slli x6, x6, 2
     .word 0x00230333  # add x6, x6, x2
-    .word 0x2e032303  # lw x6, 736(x6)
+    .word 0x30032303  # lw x6, 768(x6)
     .word 0x00229293  # slli x5, x5, 2
     .word 0x002282b3  # add x5, x5, x2
     .word 0x0662a023  # sw x6, 96(x5)
-    .word 0xfb9ff06f  # jal x0, -72
+    .word 0xfbdff06f  # jal x0, -68
     .word 0x5a012023  # sw x0, 1440(x2)
     .word 0x5ab12223  # sw x11, 1444(x2)
     .word 0x5a012303  # lw x6, 1440(x2)
     .word 0x5a412283  # lw x5, 1444(x2)
     .word 0x005332b3  # sltu x5, x6, x5
     .word 0x00029463  # bne x5, x0, 8
-    .word 0x6340006f  # jal x0, 1588
+    .word 0x6180006f  # jal x0, 1560
     .word 0x34612023  # sw x6, 832(x2)
     .word 0x00130313  # addi x6, x6, 1
     .word 0x5a612023  # sw x6, 1440(x2)
@@ -640,7 +639,7 @@ ed25519_decode:
     .word 0x00537333  # and x6, x6, x5
     .word 0x0063c5b3  # xor x11, x7, x6
     .word 0x34412283  # lw x5, 836(x2)
-    .word 0x2c029463  # bne x5, x0, 712
+    .word 0x2a029c63  # bne x5, x0, 696
     .word 0x0785f593  # andi x11, x11, 120
     .word 0x07867613  # andi x12, x12, 120
     .word 0x0786f693  # andi x13, x13, 120
@@ -743,10 +742,9 @@ ed25519_decode:
     .word 0x00430313  # addi x6, x6, 4
     .word 0xfedff06f  # jal x0, -20
     .word 0x00000b93  # addi x23, x0, 0
-    .word 0x008b8293  # addi x5, x23, 8
-    .word 0x00229b13  # slli x22, x5, 2
+    .word 0x002b9b13  # slli x22, x23, 2
     .word 0x002b0b33  # add x22, x22, x2
-    .word 0x39cb2b03  # lw x22, 924(x22)
+    .word 0x3bcb2b03  # lw x22, 956(x22)
     .word 0x02600313  # addi x6, x0, 38
     .word 0x026b07b3  # mul x15, x22, x6
     .word 0x02600313  # addi x6, x0, 38
@@ -765,7 +763,7 @@ ed25519_decode:
     .word 0x3f02a623  # sw x16, 1004(x5)
     .word 0x001b8b93  # addi x23, x23, 1
     .word 0x008bb293  # sltiu x5, x23, 8
-    .word 0xfa0294e3  # bne x5, x0, -88
+    .word 0xfa0296e3  # bne x5, x0, -84
     .word 0xfffb8b93  # addi x23, x23, -1
     .word 0x01300293  # addi x5, x0, 19
     .word 0x001a1313  # slli x6, x20, 1
@@ -791,12 +789,11 @@ ed25519_decode:
     .word 0x59012303  # lw x6, 1424(x2)
     .word 0x0062f2b3  # and x5, x5, x6
     .word 0x01628b33  # add x22, x5, x22
-    .word 0x00758293  # addi x5, x11, 7
     .word 0x59012383  # lw x7, 1424(x2)
     .word 0x007b7333  # and x6, x22, x7
-    .word 0x00229293  # slli x5, x5, 2
+    .word 0x00259293  # slli x5, x11, 2
     .word 0x002282b3  # add x5, x5, x2
-    .word 0x0662a023  # sw x6, 96(x5)
+    .word 0x0662ae23  # sw x6, 124(x5)
     .word 0x01300293  # addi x5, x0, 19
     .word 0x01fb5313  # srli x6, x22, 31
     .word 0x02628b33  # mul x22, x5, x6
@@ -807,20 +804,18 @@ ed25519_decode:
     .word 0x00259293  # slli x5, x11, 2
     .word 0x002282b3  # add x5, x5, x2
     .word 0x0742a023  # sw x20, 96(x5)
-    .word 0x00158293  # addi x5, x11, 1
-    .word 0x00158313  # addi x6, x11, 1
-    .word 0x00231313  # slli x6, x6, 2
+    .word 0x00259313  # slli x6, x11, 2
     .word 0x00230333  # add x6, x6, x2
-    .word 0x06032303  # lw x6, 96(x6)
+    .word 0x06432303  # lw x6, 100(x6)
     .word 0x016a33b3  # sltu x7, x20, x22
     .word 0x00730333  # add x6, x6, x7
-    .word 0x00229293  # slli x5, x5, 2
+    .word 0x00259293  # slli x5, x11, 2
     .word 0x002282b3  # add x5, x5, x2
-    .word 0x0662a023  # sw x6, 96(x5)
-    .word 0x2580006f  # jal x0, 600
+    .word 0x0662a223  # sw x6, 100(x5)
+    .word 0x24c0006f  # jal x0, 588
     .word 0x34412283  # lw x5, 836(x2)
     .word 0x00100313  # addi x6, x0, 1
-    .word 0x14629e63  # bne x5, x6, 348
+    .word 0x14629863  # bne x5, x6, 336
     .word 0x0785f593  # andi x11, x11, 120
     .word 0x07867613  # andi x12, x12, 120
     .word 0x0786f693  # andi x13, x13, 120
@@ -880,12 +875,11 @@ ed25519_decode:
     .word 0x59012303  # lw x6, 1424(x2)
     .word 0x0062f2b3  # and x5, x5, x6
     .word 0x01628b33  # add x22, x5, x22
-    .word 0x00758293  # addi x5, x11, 7
     .word 0x59012383  # lw x7, 1424(x2)
     .word 0x007b7333  # and x6, x22, x7
-    .word 0x00229293  # slli x5, x5, 2
+    .word 0x00259293  # slli x5, x11, 2
     .word 0x002282b3  # add x5, x5, x2
-    .word 0x0662a023  # sw x6, 96(x5)
+    .word 0x0662ae23  # sw x6, 124(x5)
     .word 0x01300293  # addi x5, x0, 19
     .word 0x01fb5313  # srli x6, x22, 31
     .word 0x02628b33  # mul x22, x5, x6
@@ -896,16 +890,14 @@ ed25519_decode:
     .word 0x00259293  # slli x5, x11, 2
     .word 0x002282b3  # add x5, x5, x2
     .word 0x0742a023  # sw x20, 96(x5)
-    .word 0x00158293  # addi x5, x11, 1
-    .word 0x00158313  # addi x6, x11, 1
-    .word 0x00231313  # slli x6, x6, 2
+    .word 0x00259313  # slli x6, x11, 2
     .word 0x00230333  # add x6, x6, x2
-    .word 0x06032303  # lw x6, 96(x6)
+    .word 0x06432303  # lw x6, 100(x6)
     .word 0x016a33b3  # sltu x7, x20, x22
     .word 0x00730333  # add x6, x6, x7
-    .word 0x00229293  # slli x5, x5, 2
+    .word 0x00259293  # slli x5, x11, 2
     .word 0x002282b3  # add x5, x5, x2
-    .word 0x0662a023  # sw x6, 96(x5)
+    .word 0x0662a223  # sw x6, 100(x5)
     .word 0x0f40006f  # jal x0, 244
     .word 0x0785f593  # andi x11, x11, 120
     .word 0x07867613  # andi x12, x12, 120
@@ -967,8 +959,8 @@ ed25519_decode:
     .word 0x0662a023  # sw x6, 96(x5)
     .word 0x016a3b33  # sltu x22, x20, x22
     .word 0xfb5ff06f  # jal x0, -76
-    .word 0x9c1ff06f  # jal x0, -1600
-    .word 0x8d1ff06f  # jal x0, -1840
+    .word 0x9ddff06f  # jal x0, -1572
+    .word 0x8f1ff06f  # jal x0, -1808
     .word 0x58012c23  # sw x0, 1432(x2)
     .word 0x00200293  # addi x5, x0, 2
     .word 0x58512e23  # sw x5, 1436(x2)

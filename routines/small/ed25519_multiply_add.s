@@ -1,4 +1,4 @@
-# ed25519_multiply_add: made by factc function; 791 words, 896 bytes of stack, profile 1
+# ed25519_multiply_add: made by factc 1.0.0 function; 780 words, 896 bytes of stack, profile 1
     .option push
     .option norvc
     .option norelax
@@ -265,11 +265,9 @@ ed25519_multiply_add:
     .word 0x00251293  # slli x5, x10, 2
     .word 0x002282b3  # add x5, x5, x2
     .word 0x0862a023  # sw x6, 128(x5)
-    .word 0x00850293  # addi x5, x10, 8
-    .word 0x00850313  # addi x6, x10, 8
-    .word 0x00231313  # slli x6, x6, 2
+    .word 0x00251313  # slli x6, x10, 2
     .word 0x00230333  # add x6, x6, x2
-    .word 0x08032303  # lw x6, 128(x6)
+    .word 0x0a032303  # lw x6, 160(x6)
     .word 0x00251393  # slli x7, x10, 2
     .word 0x00b383b3  # add x7, x7, x11
     .word 0x002383b3  # add x7, x7, x2
@@ -277,14 +275,12 @@ ed25519_multiply_add:
     .word 0x00359413  # slli x8, x11, 3
     .word 0x008393b3  # sll x7, x7, x8
     .word 0x00736333  # or x6, x6, x7
-    .word 0x00229293  # slli x5, x5, 2
+    .word 0x00251293  # slli x5, x10, 2
     .word 0x002282b3  # add x5, x5, x2
-    .word 0x0862a023  # sw x6, 128(x5)
-    .word 0x02050293  # addi x5, x10, 32
-    .word 0x02050313  # addi x6, x10, 32
-    .word 0x00231313  # slli x6, x6, 2
+    .word 0x0a62a023  # sw x6, 160(x5)
+    .word 0x00251313  # slli x6, x10, 2
     .word 0x00230333  # add x6, x6, x2
-    .word 0x08032303  # lw x6, 128(x6)
+    .word 0x10032303  # lw x6, 256(x6)
     .word 0x00251393  # slli x7, x10, 2
     .word 0x00b383b3  # add x7, x7, x11
     .word 0x002383b3  # add x7, x7, x2
@@ -292,31 +288,28 @@ ed25519_multiply_add:
     .word 0x00359413  # slli x8, x11, 3
     .word 0x008393b3  # sll x7, x7, x8
     .word 0x00736333  # or x6, x6, x7
-    .word 0x00229293  # slli x5, x5, 2
+    .word 0x00251293  # slli x5, x10, 2
     .word 0x002282b3  # add x5, x5, x2
-    .word 0x0862a023  # sw x6, 128(x5)
+    .word 0x1062a023  # sw x6, 256(x5)
     .word 0x00158593  # addi x11, x11, 1
     .word 0x0045b293  # sltiu x5, x11, 4
-    .word 0xf40296e3  # bne x5, x0, -180
+    .word 0xf4029ee3  # bne x5, x0, -164
     .word 0xfff58593  # addi x11, x11, -1
-    .word 0x01050293  # addi x5, x10, 16
     .word 0x00251313  # slli x6, x10, 2
     .word 0x00230333  # add x6, x6, x2
     .word 0x1a032303  # lw x6, 416(x6)
-    .word 0x00229293  # slli x5, x5, 2
+    .word 0x00251293  # slli x5, x10, 2
     .word 0x002282b3  # add x5, x5, x2
-    .word 0x0862a023  # sw x6, 128(x5)
-    .word 0x01850293  # addi x5, x10, 24
-    .word 0x00850313  # addi x6, x10, 8
-    .word 0x00231313  # slli x6, x6, 2
+    .word 0x0c62a023  # sw x6, 192(x5)
+    .word 0x00251313  # slli x6, x10, 2
     .word 0x00230333  # add x6, x6, x2
-    .word 0x1a032303  # lw x6, 416(x6)
-    .word 0x00229293  # slli x5, x5, 2
+    .word 0x1c032303  # lw x6, 448(x6)
+    .word 0x00251293  # slli x5, x10, 2
     .word 0x002282b3  # add x5, x5, x2
-    .word 0x0862a023  # sw x6, 128(x5)
+    .word 0x0e62a023  # sw x6, 224(x5)
     .word 0x00150513  # addi x10, x10, 1
     .word 0x00853293  # sltiu x5, x10, 8
-    .word 0xee029ee3  # bne x5, x0, -260
+    .word 0xf0029ce3  # bne x5, x0, -232
     .word 0xfff50513  # addi x10, x10, -1
     .word 0x32012423  # sw x0, 808(x2)
     .word 0x00300293  # addi x5, x0, 3
@@ -325,7 +318,7 @@ ed25519_multiply_add:
     .word 0x32c12283  # lw x5, 812(x2)
     .word 0x005332b3  # sltu x5, x6, x5
     .word 0x00029463  # bne x5, x0, 8
-    .word 0x4200006f  # jal x0, 1056
+    .word 0x4140006f  # jal x0, 1044
     .word 0x1e612023  # sw x6, 480(x2)
     .word 0x00130313  # addi x6, x6, 1
     .word 0x32612423  # sw x6, 808(x2)
@@ -490,22 +483,20 @@ ed25519_multiply_add:
     .word 0x008bb293  # sltiu x5, x23, 8
     .word 0xfa0296e3  # bne x5, x0, -84
     .word 0xfffb8b93  # addi x23, x23, -1
-    .word 0x008b0293  # addi x5, x22, 8
-    .word 0x00229293  # slli x5, x5, 2
+    .word 0x002b1293  # slli x5, x22, 2
     .word 0x002282b3  # add x5, x5, x2
-    .word 0x24c2a283  # lw x5, 588(x5)
+    .word 0x26c2a283  # lw x5, 620(x5)
     .word 0x01228a33  # add x20, x5, x18
     .word 0x015a06b3  # add x13, x20, x21
     .word 0x012a32b3  # sltu x5, x20, x18
     .word 0x0156b333  # sltu x6, x13, x21
     .word 0x00628ab3  # add x21, x5, x6
-    .word 0x008b0293  # addi x5, x22, 8
-    .word 0x00229293  # slli x5, x5, 2
+    .word 0x002b1293  # slli x5, x22, 2
     .word 0x002282b3  # add x5, x5, x2
-    .word 0x24d2a623  # sw x13, 588(x5)
+    .word 0x26d2a623  # sw x13, 620(x5)
     .word 0x001b0b13  # addi x22, x22, 1
     .word 0x008b3293  # sltiu x5, x22, 8
-    .word 0xf40296e3  # bne x5, x0, -180
+    .word 0xf4029ae3  # bne x5, x0, -172
     .word 0xfffb0b13  # addi x22, x22, -1
     .word 0x28c00313  # addi x6, x0, 652
     .word 0x00230333  # add x6, x6, x2
@@ -518,16 +509,15 @@ ed25519_multiply_add:
     .word 0x00430313  # addi x6, x6, 4
     .word 0xfedff06f  # jal x0, -20
     .word 0x00000c13  # addi x24, x0, 0
-    .word 0x008c0313  # addi x6, x24, 8
-    .word 0x00231313  # slli x6, x6, 2
+    .word 0x002c1313  # slli x6, x24, 2
     .word 0x00230333  # add x6, x6, x2
-    .word 0x24c32303  # lw x6, 588(x6)
+    .word 0x26c32303  # lw x6, 620(x6)
     .word 0x002c1293  # slli x5, x24, 2
     .word 0x002282b3  # add x5, x5, x2
     .word 0x2862a623  # sw x6, 652(x5)
     .word 0x001c0c13  # addi x24, x24, 1
     .word 0x008c3293  # sltiu x5, x24, 8
-    .word 0xfc029ee3  # bne x5, x0, -36
+    .word 0xfe0290e3  # bne x5, x0, -32
     .word 0xfffc0c13  # addi x24, x24, -1
     .word 0x2ac00313  # addi x6, x0, 684
     .word 0x00230333  # add x6, x6, x2
@@ -588,7 +578,7 @@ ed25519_multiply_add:
     .word 0x008d3293  # sltiu x5, x26, 8
     .word 0xfa029ce3  # bne x5, x0, -72
     .word 0xfffd0d13  # addi x26, x26, -1
-    .word 0xbd5ff06f  # jal x0, -1068
+    .word 0xbe1ff06f  # jal x0, -1056
     .word 0x2d000313  # addi x6, x0, 720
     .word 0x00230333  # add x6, x6, x2
     .word 0x02000393  # addi x7, x0, 32
@@ -607,7 +597,7 @@ ed25519_multiply_add:
     .word 0x32c12283  # lw x5, 812(x2)
     .word 0x005332b3  # sltu x5, x6, x5
     .word 0x00029463  # bne x5, x0, 8
-    .word 0x06c0006f  # jal x0, 108
+    .word 0x0680006f  # jal x0, 104
     .word 0x2e612823  # sw x6, 752(x2)
     .word 0x00130313  # addi x6, x6, 1
     .word 0x32612423  # sw x6, 808(x2)
@@ -616,10 +606,9 @@ ed25519_multiply_add:
     .word 0x002282b3  # add x5, x5, x2
     .word 0x0802a283  # lw x5, 128(x5)
     .word 0x2f012303  # lw x6, 752(x2)
-    .word 0x00830313  # addi x6, x6, 8
     .word 0x00231313  # slli x6, x6, 2
     .word 0x00230333  # add x6, x6, x2
-    .word 0x08032303  # lw x6, 128(x6)
+    .word 0x0a032303  # lw x6, 160(x6)
     .word 0x00628933  # add x18, x5, x6
     .word 0x014906b3  # add x13, x18, x20
     .word 0x2f012303  # lw x6, 752(x2)
@@ -633,7 +622,7 @@ ed25519_multiply_add:
     .word 0x00229293  # slli x5, x5, 2
     .word 0x002282b3  # add x5, x5, x2
     .word 0x2cd2a823  # sw x13, 720(x5)
-    .word 0xf89ff06f  # jal x0, -120
+    .word 0xf8dff06f  # jal x0, -116
     .word 0x2f400313  # addi x6, x0, 756
     .word 0x00230333  # add x6, x6, x2
     .word 0x02000393  # addi x7, x0, 32

@@ -1,4 +1,4 @@
-# ed25519_point_add: made by factc function; 815 words, 1408 bytes of stack, profile 1
+# ed25519_point_add: made by factc 1.0.0 function; 807 words, 1408 bytes of stack, profile 1
     .option push
     .option norvc
     .option norelax
@@ -287,7 +287,7 @@ ed25519_point_add:
     .word 0x52012283  # lw x5, 1312(x2)
     .word 0x005332b3  # sltu x5, x6, x5
     .word 0x00029463  # bne x5, x0, 8
-    .word 0x0580006f  # jal x0, 88
+    .word 0x0540006f  # jal x0, 84
     .word 0x3e612823  # sw x6, 1008(x2)
     .word 0x00130313  # addi x6, x6, 1
     .word 0x50612e23  # sw x6, 1308(x2)
@@ -300,15 +300,14 @@ ed25519_point_add:
     .word 0x002282b3  # add x5, x5, x2
     .word 0x1862a023  # sw x6, 384(x5)
     .word 0x3f012283  # lw x5, 1008(x2)
-    .word 0x02028293  # addi x5, x5, 32
     .word 0x3f012303  # lw x6, 1008(x2)
     .word 0x00231313  # slli x6, x6, 2
     .word 0x00230333  # add x6, x6, x2
     .word 0x08032303  # lw x6, 128(x6)
     .word 0x00229293  # slli x5, x5, 2
     .word 0x002282b3  # add x5, x5, x2
-    .word 0x1862a023  # sw x6, 384(x5)
-    .word 0xf9dff06f  # jal x0, -100
+    .word 0x2062a023  # sw x6, 512(x5)
+    .word 0xfa1ff06f  # jal x0, -96
     .word 0x50012e23  # sw x0, 1308(x2)
     .word 0x00800293  # addi x5, x0, 8
     .word 0x52512023  # sw x5, 1312(x2)
@@ -337,7 +336,7 @@ ed25519_point_add:
     .word 0x52012283  # lw x5, 1312(x2)
     .word 0x005332b3  # sltu x5, x6, x5
     .word 0x00029463  # bne x5, x0, 8
-    .word 0x5500006f  # jal x0, 1360
+    .word 0x5340006f  # jal x0, 1332
     .word 0x3e612c23  # sw x6, 1016(x2)
     .word 0x00130313  # addi x6, x6, 1
     .word 0x50612e23  # sw x6, 1308(x2)
@@ -358,7 +357,7 @@ ed25519_point_add:
     .word 0x3bc2c283  # lbu x5, 956(x5)
     .word 0x0782f613  # andi x12, x5, 120
     .word 0x3fc12283  # lw x5, 1020(x2)
-    .word 0x2a029e63  # bne x5, x0, 700
+    .word 0x2a029663  # bne x5, x0, 684
     .word 0x40000313  # addi x6, x0, 1024
     .word 0x00230333  # add x6, x6, x2
     .word 0x02000393  # addi x7, x0, 32
@@ -458,10 +457,9 @@ ed25519_point_add:
     .word 0x00430313  # addi x6, x6, 4
     .word 0xfedff06f  # jal x0, -20
     .word 0x00000b13  # addi x22, x0, 0
-    .word 0x008b0293  # addi x5, x22, 8
-    .word 0x00229a93  # slli x21, x5, 2
+    .word 0x002b1a93  # slli x21, x22, 2
     .word 0x002a8ab3  # add x21, x21, x2
-    .word 0x440aaa83  # lw x21, 1088(x21)
+    .word 0x460aaa83  # lw x21, 1120(x21)
     .word 0x02600313  # addi x6, x0, 38
     .word 0x026a8733  # mul x14, x21, x6
     .word 0x02600313  # addi x6, x0, 38
@@ -480,7 +478,7 @@ ed25519_point_add:
     .word 0x48f2a023  # sw x15, 1152(x5)
     .word 0x001b0b13  # addi x22, x22, 1
     .word 0x008b3293  # sltiu x5, x22, 8
-    .word 0xfa0294e3  # bne x5, x0, -88
+    .word 0xfa0296e3  # bne x5, x0, -84
     .word 0xfffb0b13  # addi x22, x22, -1
     .word 0x01300293  # addi x5, x0, 19
     .word 0x00199313  # slli x6, x19, 1
@@ -506,12 +504,11 @@ ed25519_point_add:
     .word 0x51412303  # lw x6, 1300(x2)
     .word 0x0062f2b3  # and x5, x5, x6
     .word 0x01528ab3  # add x21, x5, x21
-    .word 0x00750293  # addi x5, x10, 7
     .word 0x51412383  # lw x7, 1300(x2)
     .word 0x007af333  # and x6, x21, x7
-    .word 0x00229293  # slli x5, x5, 2
+    .word 0x00251293  # slli x5, x10, 2
     .word 0x002282b3  # add x5, x5, x2
-    .word 0x1862a023  # sw x6, 384(x5)
+    .word 0x1862ae23  # sw x6, 412(x5)
     .word 0x01300293  # addi x5, x0, 19
     .word 0x01fad313  # srli x6, x21, 31
     .word 0x02628ab3  # mul x21, x5, x6
@@ -522,20 +519,18 @@ ed25519_point_add:
     .word 0x00251293  # slli x5, x10, 2
     .word 0x002282b3  # add x5, x5, x2
     .word 0x1932a023  # sw x19, 384(x5)
-    .word 0x00150293  # addi x5, x10, 1
-    .word 0x00150313  # addi x6, x10, 1
-    .word 0x00231313  # slli x6, x6, 2
+    .word 0x00251313  # slli x6, x10, 2
     .word 0x00230333  # add x6, x6, x2
-    .word 0x18032303  # lw x6, 384(x6)
+    .word 0x18432303  # lw x6, 388(x6)
     .word 0x0159b3b3  # sltu x7, x19, x21
     .word 0x00730333  # add x6, x6, x7
-    .word 0x00229293  # slli x5, x5, 2
+    .word 0x00251293  # slli x5, x10, 2
     .word 0x002282b3  # add x5, x5, x2
-    .word 0x1862a023  # sw x6, 384(x5)
-    .word 0x2400006f  # jal x0, 576
+    .word 0x1862a223  # sw x6, 388(x5)
+    .word 0x2340006f  # jal x0, 564
     .word 0x3fc12283  # lw x5, 1020(x2)
     .word 0x00100313  # addi x6, x0, 1
-    .word 0x14629863  # bne x5, x6, 336
+    .word 0x14629263  # bne x5, x6, 324
     .word 0x00000a93  # addi x21, x0, 0
     .word 0x4a000313  # addi x6, x0, 1184
     .word 0x00230333  # add x6, x6, x2
@@ -592,12 +587,11 @@ ed25519_point_add:
     .word 0x51412303  # lw x6, 1300(x2)
     .word 0x0062f2b3  # and x5, x5, x6
     .word 0x01528ab3  # add x21, x5, x21
-    .word 0x00750293  # addi x5, x10, 7
     .word 0x51412383  # lw x7, 1300(x2)
     .word 0x007af333  # and x6, x21, x7
-    .word 0x00229293  # slli x5, x5, 2
+    .word 0x00251293  # slli x5, x10, 2
     .word 0x002282b3  # add x5, x5, x2
-    .word 0x1862a023  # sw x6, 384(x5)
+    .word 0x1862ae23  # sw x6, 412(x5)
     .word 0x01300293  # addi x5, x0, 19
     .word 0x01fad313  # srli x6, x21, 31
     .word 0x02628ab3  # mul x21, x5, x6
@@ -608,16 +602,14 @@ ed25519_point_add:
     .word 0x00251293  # slli x5, x10, 2
     .word 0x002282b3  # add x5, x5, x2
     .word 0x1932a023  # sw x19, 384(x5)
-    .word 0x00150293  # addi x5, x10, 1
-    .word 0x00150313  # addi x6, x10, 1
-    .word 0x00231313  # slli x6, x6, 2
+    .word 0x00251313  # slli x6, x10, 2
     .word 0x00230333  # add x6, x6, x2
-    .word 0x18032303  # lw x6, 384(x6)
+    .word 0x18432303  # lw x6, 388(x6)
     .word 0x0159b3b3  # sltu x7, x19, x21
     .word 0x00730333  # add x6, x6, x7
-    .word 0x00229293  # slli x5, x5, 2
+    .word 0x00251293  # slli x5, x10, 2
     .word 0x002282b3  # add x5, x5, x2
-    .word 0x1862a023  # sw x6, 384(x5)
+    .word 0x1862a223  # sw x6, 388(x5)
     .word 0x0e80006f  # jal x0, 232
     .word 0x00000a93  # addi x21, x0, 0
     .word 0x4c000313  # addi x6, x0, 1216
@@ -676,7 +668,7 @@ ed25519_point_add:
     .word 0x1862a023  # sw x6, 384(x5)
     .word 0x0159bab3  # sltu x21, x19, x21
     .word 0xfb5ff06f  # jal x0, -76
-    .word 0xaa5ff06f  # jal x0, -1372
+    .word 0xac1ff06f  # jal x0, -1344
     .word 0x50012e23  # sw x0, 1308(x2)
     .word 0x00400293  # addi x5, x0, 4
     .word 0x52512023  # sw x5, 1312(x2)

@@ -1,4 +1,4 @@
-# ed25519_reduce: made by factc function; 690 words, 864 bytes of stack, profile 1
+# ed25519_reduce: made by factc 1.0.0 function; 683 words, 864 bytes of stack, profile 1
     .option push
     .option norvc
     .option norelax
@@ -189,7 +189,7 @@ ed25519_reduce:
     .word 0x30812283  # lw x5, 776(x2)
     .word 0x005332b3  # sltu x5, x6, x5
     .word 0x00029463  # bne x5, x0, 8
-    .word 0x0b40006f  # jal x0, 180
+    .word 0x0a80006f  # jal x0, 168
     .word 0x1c612023  # sw x6, 448(x2)
     .word 0x00130313  # addi x6, x6, 1
     .word 0x30612223  # sw x6, 772(x2)
@@ -199,24 +199,21 @@ ed25519_reduce:
     .word 0x0002c283  # lbu x5, 0(x5)
     .word 0x1c012303  # lw x6, 448(x2)
     .word 0x00231313  # slli x6, x6, 2
-    .word 0x00130313  # addi x6, x6, 1
     .word 0x00230333  # add x6, x6, x2
-    .word 0x00034303  # lbu x6, 0(x6)
+    .word 0x00134303  # lbu x6, 1(x6)
     .word 0x00831313  # slli x6, x6, 8
     .word 0x0062e933  # or x18, x5, x6
     .word 0x1c012283  # lw x5, 448(x2)
     .word 0x1c012383  # lw x7, 448(x2)
     .word 0x00239393  # slli x7, x7, 2
-    .word 0x00238393  # addi x7, x7, 2
     .word 0x002383b3  # add x7, x7, x2
-    .word 0x0003c383  # lbu x7, 0(x7)
+    .word 0x0023c383  # lbu x7, 2(x7)
     .word 0x01039393  # slli x7, x7, 16
     .word 0x00796333  # or x6, x18, x7
     .word 0x1c012383  # lw x7, 448(x2)
     .word 0x00239393  # slli x7, x7, 2
-    .word 0x00338393  # addi x7, x7, 3
     .word 0x002383b3  # add x7, x7, x2
-    .word 0x0003c383  # lbu x7, 0(x7)
+    .word 0x0033c383  # lbu x7, 3(x7)
     .word 0x01839393  # slli x7, x7, 24
     .word 0x00736333  # or x6, x6, x7
     .word 0x00229293  # slli x5, x5, 2
@@ -233,7 +230,7 @@ ed25519_reduce:
     .word 0x00229293  # slli x5, x5, 2
     .word 0x002282b3  # add x5, x5, x2
     .word 0x0662a023  # sw x6, 96(x5)
-    .word 0xf41ff06f  # jal x0, -192
+    .word 0xf4dff06f  # jal x0, -180
     .word 0x30012223  # sw x0, 772(x2)
     .word 0x00200293  # addi x5, x0, 2
     .word 0x30512423  # sw x5, 776(x2)
@@ -241,7 +238,7 @@ ed25519_reduce:
     .word 0x30812283  # lw x5, 776(x2)
     .word 0x005332b3  # sltu x5, x6, x5
     .word 0x00029463  # bne x5, x0, 8
-    .word 0x3d80006f  # jal x0, 984
+    .word 0x3cc0006f  # jal x0, 972
     .word 0x1c612223  # sw x6, 452(x2)
     .word 0x00130313  # addi x6, x6, 1
     .word 0x30612223  # sw x6, 772(x2)
@@ -391,22 +388,20 @@ ed25519_reduce:
     .word 0x008ab293  # sltiu x5, x21, 8
     .word 0xfa0296e3  # bne x5, x0, -84
     .word 0xfffa8a93  # addi x21, x21, -1
-    .word 0x008a0293  # addi x5, x20, 8
-    .word 0x00229293  # slli x5, x5, 2
+    .word 0x002a1293  # slli x5, x20, 2
     .word 0x002282b3  # add x5, x5, x2
-    .word 0x2302a283  # lw x5, 560(x5)
+    .word 0x2502a283  # lw x5, 592(x5)
     .word 0x01028933  # add x18, x5, x16
     .word 0x013905b3  # add x11, x18, x19
     .word 0x010932b3  # sltu x5, x18, x16
     .word 0x0135b333  # sltu x6, x11, x19
     .word 0x006289b3  # add x19, x5, x6
-    .word 0x008a0293  # addi x5, x20, 8
-    .word 0x00229293  # slli x5, x5, 2
+    .word 0x002a1293  # slli x5, x20, 2
     .word 0x002282b3  # add x5, x5, x2
-    .word 0x22b2a823  # sw x11, 560(x5)
+    .word 0x24b2a823  # sw x11, 592(x5)
     .word 0x001a0a13  # addi x20, x20, 1
     .word 0x008a3293  # sltiu x5, x20, 8
-    .word 0xf40296e3  # bne x5, x0, -180
+    .word 0xf4029ae3  # bne x5, x0, -172
     .word 0xfffa0a13  # addi x20, x20, -1
     .word 0x27000313  # addi x6, x0, 624
     .word 0x00230333  # add x6, x6, x2
@@ -419,16 +414,15 @@ ed25519_reduce:
     .word 0x00430313  # addi x6, x6, 4
     .word 0xfedff06f  # jal x0, -20
     .word 0x00000b13  # addi x22, x0, 0
-    .word 0x008b0313  # addi x6, x22, 8
-    .word 0x00231313  # slli x6, x6, 2
+    .word 0x002b1313  # slli x6, x22, 2
     .word 0x00230333  # add x6, x6, x2
-    .word 0x23032303  # lw x6, 560(x6)
+    .word 0x25032303  # lw x6, 592(x6)
     .word 0x002b1293  # slli x5, x22, 2
     .word 0x002282b3  # add x5, x5, x2
     .word 0x2662a823  # sw x6, 624(x5)
     .word 0x001b0b13  # addi x22, x22, 1
     .word 0x008b3293  # sltiu x5, x22, 8
-    .word 0xfc029ee3  # bne x5, x0, -36
+    .word 0xfe0290e3  # bne x5, x0, -32
     .word 0xfffb0b13  # addi x22, x22, -1
     .word 0x29000313  # addi x6, x0, 656
     .word 0x00230333  # add x6, x6, x2
@@ -486,7 +480,7 @@ ed25519_reduce:
     .word 0x008cb293  # sltiu x5, x25, 8
     .word 0xfc0290e3  # bne x5, x0, -64
     .word 0xfffc8c93  # addi x25, x25, -1
-    .word 0xc1dff06f  # jal x0, -996
+    .word 0xc29ff06f  # jal x0, -984
     .word 0x2b000313  # addi x6, x0, 688
     .word 0x00230333  # add x6, x6, x2
     .word 0x02000393  # addi x7, x0, 32
@@ -505,7 +499,7 @@ ed25519_reduce:
     .word 0x30812283  # lw x5, 776(x2)
     .word 0x005332b3  # sltu x5, x6, x5
     .word 0x00029463  # bne x5, x0, 8
-    .word 0x06c0006f  # jal x0, 108
+    .word 0x0680006f  # jal x0, 104
     .word 0x2c612823  # sw x6, 720(x2)
     .word 0x00130313  # addi x6, x6, 1
     .word 0x30612223  # sw x6, 772(x2)
@@ -514,10 +508,9 @@ ed25519_reduce:
     .word 0x002282b3  # add x5, x5, x2
     .word 0x0602a283  # lw x5, 96(x5)
     .word 0x2d012303  # lw x6, 720(x2)
-    .word 0x00830313  # addi x6, x6, 8
     .word 0x00231313  # slli x6, x6, 2
     .word 0x00230333  # add x6, x6, x2
-    .word 0x06032303  # lw x6, 96(x6)
+    .word 0x08032303  # lw x6, 128(x6)
     .word 0x00628833  # add x16, x5, x6
     .word 0x012805b3  # add x11, x16, x18
     .word 0x2d012303  # lw x6, 720(x2)
@@ -531,7 +524,7 @@ ed25519_reduce:
     .word 0x00229293  # slli x5, x5, 2
     .word 0x002282b3  # add x5, x5, x2
     .word 0x2ab2a823  # sw x11, 688(x5)
-    .word 0xf89ff06f  # jal x0, -120
+    .word 0xf8dff06f  # jal x0, -116
     .word 0x2d400313  # addi x6, x0, 724
     .word 0x00230333  # add x6, x6, x2
     .word 0x02000393  # addi x7, x0, 32

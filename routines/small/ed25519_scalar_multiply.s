@@ -1,4 +1,4 @@
-# ed25519_scalar_multiply: made by factc function; 2553 words, 3728 bytes of stack, profile 1
+# ed25519_scalar_multiply: made by factc 1.0.0 function; 2547 words, 3728 bytes of stack, profile 1
     .option push
     .option norvc
     .option norelax
@@ -1056,7 +1056,7 @@ ed25519_scalar_multiply:
     .word 0xe302a283  # lw x5, -464(x5)
     .word 0x005332b3  # sltu x5, x6, x5
     .word 0x00029463  # bne x5, x0, 8
-    .word 0x0dc0106f  # jal x0, 4316
+    .word 0x0c40106f  # jal x0, 4292
     .word 0x00001e37  # lui x28, 0x00001
     .word 0x002e0e33  # add x28, x28, x2
     .word 0xb86e2c23  # sw x6, -1128(x28)
@@ -1557,7 +1557,7 @@ ed25519_scalar_multiply:
     .word 0xe382a283  # lw x5, -456(x5)
     .word 0x005332b3  # sltu x5, x6, x5
     .word 0x00029463  # bne x5, x0, 8
-    .word 0x0310006f  # jal x0, 2096
+    .word 0x0190006f  # jal x0, 2072
     .word 0x00001e37  # lui x28, 0x00001
     .word 0x002e0e33  # add x28, x28, x2
     .word 0xc06e2223  # sw x6, -1020(x28)
@@ -1675,7 +1675,7 @@ ed25519_scalar_multiply:
     .word 0x000012b7  # lui x5, 0x00001
     .word 0x002282b3  # add x5, x5, x2
     .word 0xc082a283  # lw x5, -1016(x5)
-    .word 0x34029c63  # bne x5, x0, 856
+    .word 0x34029663  # bne x5, x0, 844
     .word 0x0785f593  # andi x11, x11, 120
     .word 0x07867613  # andi x12, x12, 120
     .word 0x0786f693  # andi x13, x13, 120
@@ -1860,14 +1860,13 @@ ed25519_scalar_multiply:
     .word 0xe2432303  # lw x6, -476(x6)
     .word 0x0062f2b3  # and x5, x5, x6
     .word 0x01628b33  # add x22, x5, x22
-    .word 0x00758293  # addi x5, x11, 7
     .word 0x000013b7  # lui x7, 0x00001
     .word 0x002383b3  # add x7, x7, x2
     .word 0xe243a383  # lw x7, -476(x7)
     .word 0x007b7333  # and x6, x22, x7
-    .word 0x00229293  # slli x5, x5, 2
+    .word 0x00259293  # slli x5, x11, 2
     .word 0x002282b3  # add x5, x5, x2
-    .word 0x0a62a023  # sw x6, 160(x5)
+    .word 0x0a62ae23  # sw x6, 188(x5)
     .word 0x01300293  # addi x5, x0, 19
     .word 0x01fb5313  # srli x6, x22, 31
     .word 0x02628b33  # mul x22, x5, x6
@@ -1878,22 +1877,20 @@ ed25519_scalar_multiply:
     .word 0x00259293  # slli x5, x11, 2
     .word 0x002282b3  # add x5, x5, x2
     .word 0x0b42a023  # sw x20, 160(x5)
-    .word 0x00158293  # addi x5, x11, 1
-    .word 0x00158313  # addi x6, x11, 1
-    .word 0x00231313  # slli x6, x6, 2
+    .word 0x00259313  # slli x6, x11, 2
     .word 0x00230333  # add x6, x6, x2
-    .word 0x0a032303  # lw x6, 160(x6)
+    .word 0x0a432303  # lw x6, 164(x6)
     .word 0x016a33b3  # sltu x7, x20, x22
     .word 0x00730333  # add x6, x6, x7
-    .word 0x00229293  # slli x5, x5, 2
+    .word 0x00259293  # slli x5, x11, 2
     .word 0x002282b3  # add x5, x5, x2
-    .word 0x0a62a023  # sw x6, 160(x5)
-    .word 0x3000006f  # jal x0, 768
+    .word 0x0a62a223  # sw x6, 164(x5)
+    .word 0x2f40006f  # jal x0, 756
     .word 0x000012b7  # lui x5, 0x00001
     .word 0x002282b3  # add x5, x5, x2
     .word 0xc082a283  # lw x5, -1016(x5)
     .word 0x00100313  # addi x6, x0, 1
-    .word 0x1a629463  # bne x5, x6, 424
+    .word 0x18629e63  # bne x5, x6, 412
     .word 0x0785f593  # andi x11, x11, 120
     .word 0x07867613  # andi x12, x12, 120
     .word 0x0786f693  # andi x13, x13, 120
@@ -1970,14 +1967,13 @@ ed25519_scalar_multiply:
     .word 0xe2432303  # lw x6, -476(x6)
     .word 0x0062f2b3  # and x5, x5, x6
     .word 0x01628b33  # add x22, x5, x22
-    .word 0x00758293  # addi x5, x11, 7
     .word 0x000013b7  # lui x7, 0x00001
     .word 0x002383b3  # add x7, x7, x2
     .word 0xe243a383  # lw x7, -476(x7)
     .word 0x007b7333  # and x6, x22, x7
-    .word 0x00229293  # slli x5, x5, 2
+    .word 0x00259293  # slli x5, x11, 2
     .word 0x002282b3  # add x5, x5, x2
-    .word 0x0a62a023  # sw x6, 160(x5)
+    .word 0x0a62ae23  # sw x6, 188(x5)
     .word 0x01300293  # addi x5, x0, 19
     .word 0x01fb5313  # srli x6, x22, 31
     .word 0x02628b33  # mul x22, x5, x6
@@ -1988,16 +1984,14 @@ ed25519_scalar_multiply:
     .word 0x00259293  # slli x5, x11, 2
     .word 0x002282b3  # add x5, x5, x2
     .word 0x0b42a023  # sw x20, 160(x5)
-    .word 0x00158293  # addi x5, x11, 1
-    .word 0x00158313  # addi x6, x11, 1
-    .word 0x00231313  # slli x6, x6, 2
+    .word 0x00259313  # slli x6, x11, 2
     .word 0x00230333  # add x6, x6, x2
-    .word 0x0a032303  # lw x6, 160(x6)
+    .word 0x0a432303  # lw x6, 164(x6)
     .word 0x016a33b3  # sltu x7, x20, x22
     .word 0x00730333  # add x6, x6, x7
-    .word 0x00229293  # slli x5, x5, 2
+    .word 0x00259293  # slli x5, x11, 2
     .word 0x002282b3  # add x5, x5, x2
-    .word 0x0a62a023  # sw x6, 160(x5)
+    .word 0x0a62a223  # sw x6, 164(x5)
     .word 0x1480006f  # jal x0, 328
     .word 0x0785f593  # andi x11, x11, 120
     .word 0x07867613  # andi x12, x12, 120
@@ -2080,7 +2074,7 @@ ed25519_scalar_multiply:
     .word 0x0a62a023  # sw x6, 160(x5)
     .word 0x016a3b33  # sltu x22, x20, x22
     .word 0xf7dff06f  # jal x0, -132
-    .word 0xfb4ff06f  # jal x0, -2124
+    .word 0xfccff06f  # jal x0, -2100
     .word 0x000012b7  # lui x5, 0x00001
     .word 0x002282b3  # add x5, x5, x2
     .word 0xb982a283  # lw x5, -1128(x5)
@@ -2134,7 +2128,7 @@ ed25519_scalar_multiply:
     .word 0x002282b3  # add x5, x5, x2
     .word 0x2a62a023  # sw x6, 672(x5)
     .word 0xf75ff06f  # jal x0, -140
-    .word 0xf09fe06f  # jal x0, -4344
+    .word 0xf21fe06f  # jal x0, -4320
     .word 0x01300b13  # addi x22, x0, 19
     .word 0x00001337  # lui x6, 0x00001
     .word 0xdb030313  # addi x6, x6, -592

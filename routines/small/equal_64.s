@@ -1,4 +1,4 @@
-# equal_64: made by factc function; 144 words, 160 bytes of stack, profile 1
+# equal_64: made by factc 1.0.0 function; 144 words, 160 bytes of stack, profile 1
     .option push
     .option norvc
     .option norelax

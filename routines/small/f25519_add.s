@@ -1,4 +1,4 @@
-# f25519_add: made by factc function; 278 words, 720 bytes of stack, profile 1
+# f25519_add: made by factc 1.0.0 function; 277 words, 720 bytes of stack, profile 1
     .option push
     .option norvc
     .option norelax
@@ -93,16 +93,15 @@ f25519_add:
     .word 0x00251293  # slli x5, x10, 2
     .word 0x002282b3  # add x5, x5, x2
     .word 0x0662a023  # sw x6, 96(x5)
-    .word 0x00850293  # addi x5, x10, 8
     .word 0x00251313  # slli x6, x10, 2
     .word 0x00230333  # add x6, x6, x2
     .word 0x02032303  # lw x6, 32(x6)
-    .word 0x00229293  # slli x5, x5, 2
+    .word 0x00251293  # slli x5, x10, 2
     .word 0x002282b3  # add x5, x5, x2
-    .word 0x0662a023  # sw x6, 96(x5)
+    .word 0x0862a023  # sw x6, 128(x5)
     .word 0x00150513  # addi x10, x10, 1
     .word 0x00853293  # sltiu x5, x10, 8
-    .word 0xfc0292e3  # bne x5, x0, -60
+    .word 0xfc0294e3  # bne x5, x0, -56
     .word 0xfff50513  # addi x10, x10, -1
     .word 0x00000593  # addi x11, x0, 0
     .word 0x26000313  # addi x6, x0, 608

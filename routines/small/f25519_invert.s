@@ -1,4 +1,4 @@
-# f25519_invert: made by factc function; 561 words, 944 bytes of stack, profile 1
+# f25519_invert: made by factc 1.0.0 function; 557 words, 944 bytes of stack, profile 1
     .option push
     .option norvc
     .option norelax
@@ -207,7 +207,7 @@ f25519_invert:
     .word 0x35412283  # lw x5, 852(x2)
     .word 0x005332b3  # sltu x5, x6, x5
     .word 0x00029463  # bne x5, x0, 8
-    .word 0x33c0006f  # jal x0, 828
+    .word 0x32c0006f  # jal x0, 812
     .word 0x00030593  # addi x11, x6, 0
     .word 0x00250333  # add x6, x10, x2
     .word 0x24034303  # lbu x6, 576(x6)
@@ -336,10 +336,9 @@ f25519_invert:
     .word 0x00430313  # addi x6, x6, 4
     .word 0xfedff06f  # jal x0, -20
     .word 0x00000c93  # addi x25, x0, 0
-    .word 0x008c8293  # addi x5, x25, 8
-    .word 0x00229c13  # slli x24, x5, 2
+    .word 0x002c9c13  # slli x24, x25, 2
     .word 0x002c0c33  # add x24, x24, x2
-    .word 0x2b4c2c03  # lw x24, 692(x24)
+    .word 0x2d4c2c03  # lw x24, 724(x24)
     .word 0x02600313  # addi x6, x0, 38
     .word 0x026c08b3  # mul x17, x24, x6
     .word 0x02600313  # addi x6, x0, 38
@@ -358,7 +357,7 @@ f25519_invert:
     .word 0x2f22aa23  # sw x18, 756(x5)
     .word 0x001c8c93  # addi x25, x25, 1
     .word 0x008cb293  # sltiu x5, x25, 8
-    .word 0xfa0294e3  # bne x5, x0, -88
+    .word 0xfa0296e3  # bne x5, x0, -84
     .word 0xfffc8c93  # addi x25, x25, -1
     .word 0x01300293  # addi x5, x0, 19
     .word 0x001b1313  # slli x6, x22, 1
@@ -383,11 +382,10 @@ f25519_invert:
     .word 0x31012283  # lw x5, 784(x2)
     .word 0x01b2f2b3  # and x5, x5, x27
     .word 0x01828c33  # add x24, x5, x24
-    .word 0x00778293  # addi x5, x15, 7
     .word 0x01bc7333  # and x6, x24, x27
-    .word 0x00229293  # slli x5, x5, 2
+    .word 0x00279293  # slli x5, x15, 2
     .word 0x002282b3  # add x5, x5, x2
-    .word 0x0462a023  # sw x6, 64(x5)
+    .word 0x0462ae23  # sw x6, 92(x5)
     .word 0x01300293  # addi x5, x0, 19
     .word 0x01fc5313  # srli x6, x24, 31
     .word 0x02628c33  # mul x24, x5, x6
@@ -398,25 +396,23 @@ f25519_invert:
     .word 0x00279293  # slli x5, x15, 2
     .word 0x002282b3  # add x5, x5, x2
     .word 0x0562a023  # sw x22, 64(x5)
-    .word 0x00178293  # addi x5, x15, 1
-    .word 0x00178313  # addi x6, x15, 1
-    .word 0x00231313  # slli x6, x6, 2
+    .word 0x00279313  # slli x6, x15, 2
     .word 0x00230333  # add x6, x6, x2
-    .word 0x04032303  # lw x6, 64(x6)
+    .word 0x04432303  # lw x6, 68(x6)
     .word 0x018b33b3  # sltu x7, x22, x24
     .word 0x00730333  # add x6, x6, x7
-    .word 0x00229293  # slli x5, x5, 2
+    .word 0x00279293  # slli x5, x15, 2
     .word 0x002282b3  # add x5, x5, x2
-    .word 0x0462a023  # sw x6, 64(x5)
+    .word 0x0462a223  # sw x6, 68(x5)
     .word 0x00158593  # addi x11, x11, 1
     .word 0x35412283  # lw x5, 852(x2)
     .word 0x0055b2b3  # sltu x5, x11, x5
-    .word 0xcc029ce3  # bne x5, x0, -808
+    .word 0xce0294e3  # bne x5, x0, -792
     .word 0xfff58593  # addi x11, x11, -1
     .word 0x0040006f  # jal x0, 4
     .word 0x00150513  # addi x10, x10, 1
     .word 0x00b53293  # sltiu x5, x10, 11
-    .word 0xc8029ce3  # bne x5, x0, -872
+    .word 0xca0294e3  # bne x5, x0, -856
     .word 0xfff50513  # addi x10, x10, -1
     .word 0x01300c13  # addi x24, x0, 19
     .word 0x31400313  # addi x6, x0, 788

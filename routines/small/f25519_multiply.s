@@ -1,4 +1,4 @@
-# f25519_multiply: made by factc function; 390 words, 880 bytes of stack, profile 1
+# f25519_multiply: made by factc 1.0.0 function; 388 words, 880 bytes of stack, profile 1
     .option push
     .option norvc
     .option norelax
@@ -106,16 +106,15 @@ f25519_multiply:
     .word 0x00251293  # slli x5, x10, 2
     .word 0x002282b3  # add x5, x5, x2
     .word 0x0662a023  # sw x6, 96(x5)
-    .word 0x00850293  # addi x5, x10, 8
     .word 0x00251313  # slli x6, x10, 2
     .word 0x00230333  # add x6, x6, x2
     .word 0x02032303  # lw x6, 32(x6)
-    .word 0x00229293  # slli x5, x5, 2
+    .word 0x00251293  # slli x5, x10, 2
     .word 0x002282b3  # add x5, x5, x2
-    .word 0x0662a023  # sw x6, 96(x5)
+    .word 0x0862a023  # sw x6, 128(x5)
     .word 0x00150513  # addi x10, x10, 1
     .word 0x00853293  # sltiu x5, x10, 8
-    .word 0xfc0292e3  # bne x5, x0, -60
+    .word 0xfc0294e3  # bne x5, x0, -56
     .word 0xfff50513  # addi x10, x10, -1
     .word 0x26000313  # addi x6, x0, 608
     .word 0x00230333  # add x6, x6, x2
@@ -215,10 +214,9 @@ f25519_multiply:
     .word 0x00430313  # addi x6, x6, 4
     .word 0xfedff06f  # jal x0, -20
     .word 0x00000a13  # addi x20, x0, 0
-    .word 0x008a0293  # addi x5, x20, 8
-    .word 0x00229993  # slli x19, x5, 2
+    .word 0x002a1993  # slli x19, x20, 2
     .word 0x002989b3  # add x19, x19, x2
-    .word 0x2a09a983  # lw x19, 672(x19)
+    .word 0x2c09a983  # lw x19, 704(x19)
     .word 0x02600313  # addi x6, x0, 38
     .word 0x02698633  # mul x12, x19, x6
     .word 0x02600313  # addi x6, x0, 38
@@ -237,7 +235,7 @@ f25519_multiply:
     .word 0x2ed2a023  # sw x13, 736(x5)
     .word 0x001a0a13  # addi x20, x20, 1
     .word 0x008a3293  # sltiu x5, x20, 8
-    .word 0xfa0294e3  # bne x5, x0, -88
+    .word 0xfa0296e3  # bne x5, x0, -84
     .word 0xfffa0a13  # addi x20, x20, -1
     .word 0x01300293  # addi x5, x0, 19
     .word 0x00189313  # slli x6, x17, 1

@@ -1,4 +1,4 @@
-# f25519_subtract: made by factc function; 278 words, 720 bytes of stack, profile 1
+# f25519_subtract: made by factc 1.0.0 function; 278 words, 720 bytes of stack, profile 1
     .option push
     .option norvc
     .option norelax

@@ -1,4 +1,4 @@
-# ghash_block: made by factc 1.0.0 function; 274 words, 128 bytes of stack, profile 1
+# ghash_block: made by factc 1.0.0 function; 271 words, 128 bytes of stack, profile 1
     .option push
     .option norvc
     .option norelax
@@ -215,21 +215,18 @@ ghash_block:
     .word 0x01565333  # srl x6, x12, x21
     .word 0x002a02b3  # add x5, x20, x2
     .word 0x02628023  # sb x6, 32(x5)
-    .word 0x004a0293  # addi x5, x20, 4
     .word 0x0156d333  # srl x6, x13, x21
-    .word 0x002282b3  # add x5, x5, x2
-    .word 0x02628023  # sb x6, 32(x5)
-    .word 0x008a0293  # addi x5, x20, 8
+    .word 0x002a02b3  # add x5, x20, x2
+    .word 0x02628223  # sb x6, 36(x5)
     .word 0x01575333  # srl x6, x14, x21
-    .word 0x002282b3  # add x5, x5, x2
-    .word 0x02628023  # sb x6, 32(x5)
-    .word 0x00ca0293  # addi x5, x20, 12
+    .word 0x002a02b3  # add x5, x20, x2
+    .word 0x02628423  # sb x6, 40(x5)
     .word 0x0157d333  # srl x6, x15, x21
-    .word 0x002282b3  # add x5, x5, x2
-    .word 0x02628023  # sb x6, 32(x5)
+    .word 0x002a02b3  # add x5, x20, x2
+    .word 0x02628623  # sb x6, 44(x5)
     .word 0x001a0a13  # addi x20, x20, 1
     .word 0x004a3293  # sltiu x5, x20, 4
-    .word 0xfa0298e3  # bne x5, x0, -80
+    .word 0xfa029ee3  # bne x5, x0, -68
     .word 0xfffa0a13  # addi x20, x20, -1
     # the result
     .word 0x00000513  # addi x10, x0, 0

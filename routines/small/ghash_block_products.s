@@ -1,4 +1,4 @@
-# ghash_block_products: made by factc 1.0.0 function; 738 words, 352 bytes of stack, profile 1
+# ghash_block_products: made by factc 1.0.0 function; 725 words, 352 bytes of stack, profile 1
     .option push
     .option norvc
     .option norelax
@@ -173,19 +173,16 @@ ghash_block_products:
     .word 0x002582b3  # add x5, x11, x2
     .word 0x0002c283  # lbu x5, 0(x5)
     .word 0x01829293  # slli x5, x5, 24
-    .word 0x00158313  # addi x6, x11, 1
-    .word 0x00230333  # add x6, x6, x2
-    .word 0x00034303  # lbu x6, 0(x6)
+    .word 0x00258333  # add x6, x11, x2
+    .word 0x00134303  # lbu x6, 1(x6)
     .word 0x01031313  # slli x6, x6, 16
     .word 0x0062ebb3  # or x23, x5, x6
-    .word 0x00258393  # addi x7, x11, 2
-    .word 0x002383b3  # add x7, x7, x2
-    .word 0x0003c383  # lbu x7, 0(x7)
+    .word 0x002583b3  # add x7, x11, x2
+    .word 0x0023c383  # lbu x7, 2(x7)
     .word 0x00839393  # slli x7, x7, 8
     .word 0x007be333  # or x6, x23, x7
-    .word 0x00358393  # addi x7, x11, 3
-    .word 0x002383b3  # add x7, x7, x2
-    .word 0x0003c383  # lbu x7, 0(x7)
+    .word 0x002583b3  # add x7, x11, x2
+    .word 0x0033c383  # lbu x7, 3(x7)
     .word 0x00736333  # or x6, x6, x7
     .word 0x00251293  # slli x5, x10, 2
     .word 0x002282b3  # add x5, x5, x2
@@ -196,19 +193,16 @@ ghash_block_products:
     .word 0x002582b3  # add x5, x11, x2
     .word 0x0202c283  # lbu x5, 32(x5)
     .word 0x01829293  # slli x5, x5, 24
-    .word 0x00158313  # addi x6, x11, 1
-    .word 0x00230333  # add x6, x6, x2
-    .word 0x02034303  # lbu x6, 32(x6)
+    .word 0x00258333  # add x6, x11, x2
+    .word 0x02134303  # lbu x6, 33(x6)
     .word 0x01031313  # slli x6, x6, 16
     .word 0x0062ebb3  # or x23, x5, x6
-    .word 0x00258313  # addi x6, x11, 2
-    .word 0x00230333  # add x6, x6, x2
-    .word 0x02034303  # lbu x6, 32(x6)
+    .word 0x00258333  # add x6, x11, x2
+    .word 0x02234303  # lbu x6, 34(x6)
     .word 0x00831313  # slli x6, x6, 8
     .word 0x006be2b3  # or x5, x23, x6
-    .word 0x00358313  # addi x6, x11, 3
-    .word 0x00230333  # add x6, x6, x2
-    .word 0x02034303  # lbu x6, 32(x6)
+    .word 0x00258333  # add x6, x11, x2
+    .word 0x02334303  # lbu x6, 35(x6)
     .word 0x0062ebb3  # or x23, x5, x6
     .word 0x00c00293  # addi x5, x0, 12
     .word 0x00251313  # slli x6, x10, 2
@@ -216,19 +210,16 @@ ghash_block_products:
     .word 0x002582b3  # add x5, x11, x2
     .word 0x0102c283  # lbu x5, 16(x5)
     .word 0x01829293  # slli x5, x5, 24
-    .word 0x00158313  # addi x6, x11, 1
-    .word 0x00230333  # add x6, x6, x2
-    .word 0x01034303  # lbu x6, 16(x6)
+    .word 0x00258333  # add x6, x11, x2
+    .word 0x01134303  # lbu x6, 17(x6)
     .word 0x01031313  # slli x6, x6, 16
     .word 0x0062e6b3  # or x13, x5, x6
-    .word 0x00258313  # addi x6, x11, 2
-    .word 0x00230333  # add x6, x6, x2
-    .word 0x01034303  # lbu x6, 16(x6)
+    .word 0x00258333  # add x6, x11, x2
+    .word 0x01234303  # lbu x6, 18(x6)
     .word 0x00831313  # slli x6, x6, 8
     .word 0x0066e2b3  # or x5, x13, x6
-    .word 0x00358313  # addi x6, x11, 3
-    .word 0x00230333  # add x6, x6, x2
-    .word 0x01034303  # lbu x6, 16(x6)
+    .word 0x00258333  # add x6, x11, x2
+    .word 0x01334303  # lbu x6, 19(x6)
     .word 0x0062e6b3  # or x13, x5, x6
     .word 0x00dbc333  # xor x6, x23, x13
     .word 0x00251293  # slli x5, x10, 2
@@ -236,7 +227,7 @@ ghash_block_products:
     .word 0x0462a023  # sw x6, 64(x5)
     .word 0x00150513  # addi x10, x10, 1
     .word 0x00453293  # sltiu x5, x10, 4
-    .word 0xee0296e3  # bne x5, x0, -276
+    .word 0xf00298e3  # bne x5, x0, -240
     .word 0xfff50513  # addi x10, x10, -1
     .word 0x05000313  # addi x6, x0, 80
     .word 0x00230333  # add x6, x6, x2
@@ -625,11 +616,9 @@ ghash_block_products:
     .word 0x002b1b93  # slli x23, x22, 2
     .word 0x002b8bb3  # add x23, x23, x2
     .word 0x0ecbab83  # lw x23, 236(x23)
-    .word 0x004b0293  # addi x5, x22, 4
-    .word 0x004b0313  # addi x6, x22, 4
-    .word 0x00231313  # slli x6, x6, 2
+    .word 0x002b1313  # slli x6, x22, 2
     .word 0x00230333  # add x6, x6, x2
-    .word 0x0ec32303  # lw x6, 236(x6)
+    .word 0x0fc32303  # lw x6, 252(x6)
     .word 0x01734333  # xor x6, x6, x23
     .word 0x001bd393  # srli x7, x23, 1
     .word 0x00734333  # xor x6, x6, x7
@@ -637,26 +626,24 @@ ghash_block_products:
     .word 0x00734333  # xor x6, x6, x7
     .word 0x007bd393  # srli x7, x23, 7
     .word 0x00734333  # xor x6, x6, x7
-    .word 0x00229293  # slli x5, x5, 2
+    .word 0x002b1293  # slli x5, x22, 2
     .word 0x002282b3  # add x5, x5, x2
-    .word 0x0e62a623  # sw x6, 236(x5)
-    .word 0x003b0293  # addi x5, x22, 3
-    .word 0x003b0313  # addi x6, x22, 3
-    .word 0x00231313  # slli x6, x6, 2
+    .word 0x0e62ae23  # sw x6, 252(x5)
+    .word 0x002b1313  # slli x6, x22, 2
     .word 0x00230333  # add x6, x6, x2
-    .word 0x0ec32303  # lw x6, 236(x6)
+    .word 0x0f832303  # lw x6, 248(x6)
     .word 0x01fb9393  # slli x7, x23, 31
     .word 0x00734333  # xor x6, x6, x7
     .word 0x01eb9393  # slli x7, x23, 30
     .word 0x00734333  # xor x6, x6, x7
     .word 0x019b9393  # slli x7, x23, 25
     .word 0x00734333  # xor x6, x6, x7
-    .word 0x00229293  # slli x5, x5, 2
+    .word 0x002b1293  # slli x5, x22, 2
     .word 0x002282b3  # add x5, x5, x2
-    .word 0x0e62a623  # sw x6, 236(x5)
+    .word 0x0e62ac23  # sw x6, 248(x5)
     .word 0x001b0b13  # addi x22, x22, 1
     .word 0x004b3293  # sltiu x5, x22, 4
-    .word 0xf6029ce3  # bne x5, x0, -136
+    .word 0xf80294e3  # bne x5, x0, -120
     .word 0xfffb0b13  # addi x22, x22, -1
     .word 0x10012c23  # sw x0, 280(x2)
     .word 0x01000293  # addi x5, x0, 16

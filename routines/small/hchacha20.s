@@ -1,4 +1,4 @@
-# hchacha20: made by factc function; 526 words, 176 bytes of stack, profile 1
+# hchacha20: made by factc 1.0.0 function; 526 words, 176 bytes of stack, profile 1
     .option push
     .option norvc
     .option norelax

@@ -1,4 +1,4 @@
-# hex_encode: made by factc function; 185 words, 128 bytes of stack, profile 1
+# hex_encode: made by factc 1.0.0 function; 184 words, 128 bytes of stack, profile 1
     .option push
     .option norvc
     .option norelax
@@ -121,12 +121,11 @@ hex_encode:
     .word 0x40628533  # sub x10, x5, x6
     .word 0x002482b3  # add x5, x9, x2
     .word 0x02b28023  # sb x11, 32(x5)
-    .word 0x00148293  # addi x5, x9, 1
-    .word 0x002282b3  # add x5, x5, x2
-    .word 0x02a28023  # sb x10, 32(x5)
+    .word 0x002482b3  # add x5, x9, x2
+    .word 0x02a280a3  # sb x10, 33(x5)
     .word 0x00140413  # addi x8, x8, 1
     .word 0x02043293  # sltiu x5, x8, 32
-    .word 0xfa0294e3  # bne x5, x0, -88
+    .word 0xfa0296e3  # bne x5, x0, -84
     .word 0xfff40413  # addi x8, x8, -1
     # the result
     .word 0x00000513  # addi x10, x0, 0

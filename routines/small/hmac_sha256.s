@@ -1,4 +1,4 @@
-# hmac_sha256: made by factc function; 1208 words, 800 bytes of stack, profile 1
+# hmac_sha256: made by factc 1.0.0 function; 1190 words, 800 bytes of stack, profile 1
     .option push
     .option norvc
     .option norelax
@@ -480,7 +480,7 @@ hmac_sha256:
     .word 0x2b412283  # lw x5, 692(x2)
     .word 0x005332b3  # sltu x5, x6, x5
     .word 0x00029463  # bne x5, x0, 8
-    .word 0x1f90006f  # jal x0, 2552
+    .word 0x1bd0006f  # jal x0, 2492
     .word 0x26612223  # sw x6, 612(x2)
     .word 0x00130313  # addi x6, x6, 1
     .word 0x2a612823  # sw x6, 688(x2)
@@ -609,7 +609,7 @@ hmac_sha256:
     .word 0x14512e23  # sw x5, 348(x2)
     .word 0x26412283  # lw x5, 612(x2)
     .word 0x00400313  # addi x6, x0, 4
-    .word 0x06629e63  # bne x5, x6, 124
+    .word 0x06629c63  # bne x5, x6, 120
     .word 0x2a012c23  # sw x0, 696(x2)
     .word 0x00800293  # addi x5, x0, 8
     .word 0x2a512e23  # sw x5, 700(x2)
@@ -617,7 +617,7 @@ hmac_sha256:
     .word 0x2bc12283  # lw x5, 700(x2)
     .word 0x005332b3  # sltu x5, x6, x5
     .word 0x00029463  # bne x5, x0, 8
-    .word 0x04c0006f  # jal x0, 76
+    .word 0x0480006f  # jal x0, 72
     .word 0x26612823  # sw x6, 624(x2)
     .word 0x00130313  # addi x6, x6, 1
     .word 0x2a612c23  # sw x6, 696(x2)
@@ -630,12 +630,11 @@ hmac_sha256:
     .word 0x002282b3  # add x5, x5, x2
     .word 0x1262a023  # sw x6, 288(x5)
     .word 0x27012283  # lw x5, 624(x2)
-    .word 0x00828293  # addi x5, x5, 8
     .word 0x00000313  # addi x6, x0, 0
     .word 0x00229293  # slli x5, x5, 2
     .word 0x002282b3  # add x5, x5, x2
-    .word 0x1262a023  # sw x6, 288(x5)
-    .word 0xfa9ff06f  # jal x0, -88
+    .word 0x1462a023  # sw x6, 320(x5)
+    .word 0xfadff06f  # jal x0, -84
     .word 0x2a812283  # lw x5, 680(x2)
     .word 0x14512023  # sw x5, 320(x2)
     .word 0x30000293  # addi x5, x0, 768
@@ -647,7 +646,7 @@ hmac_sha256:
     .word 0xffe30313  # addi x6, x6, -2
     .word 0x00133313  # sltiu x6, x6, 1
     .word 0x0062e2b3  # or x5, x5, x6
-    .word 0x6e028e63  # beq x5, x0, 1788
+    .word 0x6c028263  # beq x5, x0, 1732
     .word 0x0e012683  # lw x13, 224(x2)
     .word 0x0e412703  # lw x14, 228(x2)
     .word 0x0e812783  # lw x15, 232(x2)
@@ -664,7 +663,7 @@ hmac_sha256:
     .word 0x2bc12283  # lw x5, 700(x2)
     .word 0x005332b3  # sltu x5, x6, x5
     .word 0x00029463  # bne x5, x0, 8
-    .word 0x6580006f  # jal x0, 1624
+    .word 0x6200006f  # jal x0, 1568
     .word 0x26612a23  # sw x6, 628(x2)
     .word 0x00130313  # addi x6, x6, 1
     .word 0x2a612c23  # sw x6, 696(x2)
@@ -730,15 +729,13 @@ hmac_sha256:
     .word 0x01037333  # and x6, x6, x16
     .word 0x01234333  # xor x6, x6, x18
     .word 0x006282b3  # add x5, x5, x6
-    .word 0x001c0313  # addi x6, x24, 1
-    .word 0x00231313  # slli x6, x6, 2
+    .word 0x002c1313  # slli x6, x24, 2
     .word 0x00230333  # add x6, x6, x2
-    .word 0x12032303  # lw x6, 288(x6)
+    .word 0x12432303  # lw x6, 292(x6)
     .word 0x006282b3  # add x5, x5, x6
-    .word 0x001c8313  # addi x6, x25, 1
-    .word 0x00231313  # slli x6, x6, 2
+    .word 0x002c9313  # slli x6, x25, 2
     .word 0x00230333  # add x6, x6, x2
-    .word 0x16032303  # lw x6, 352(x6)
+    .word 0x16432303  # lw x6, 356(x6)
     .word 0x006289b3  # add x19, x5, x6
     .word 0x013787b3  # add x15, x15, x19
     .word 0x00da4ab3  # xor x21, x20, x13
@@ -773,15 +770,13 @@ hmac_sha256:
     .word 0x00f37333  # and x6, x6, x15
     .word 0x01134333  # xor x6, x6, x17
     .word 0x006282b3  # add x5, x5, x6
-    .word 0x002c0313  # addi x6, x24, 2
-    .word 0x00231313  # slli x6, x6, 2
+    .word 0x002c1313  # slli x6, x24, 2
     .word 0x00230333  # add x6, x6, x2
-    .word 0x12032303  # lw x6, 288(x6)
+    .word 0x12832303  # lw x6, 296(x6)
     .word 0x006282b3  # add x5, x5, x6
-    .word 0x002c8313  # addi x6, x25, 2
-    .word 0x00231313  # slli x6, x6, 2
+    .word 0x002c9313  # slli x6, x25, 2
     .word 0x00230333  # add x6, x6, x2
-    .word 0x16032303  # lw x6, 352(x6)
+    .word 0x16832303  # lw x6, 360(x6)
     .word 0x00628933  # add x18, x5, x6
     .word 0x01270733  # add x14, x14, x18
     .word 0x0149cb33  # xor x22, x19, x20
@@ -816,15 +811,13 @@ hmac_sha256:
     .word 0x00e37333  # and x6, x6, x14
     .word 0x01034333  # xor x6, x6, x16
     .word 0x006282b3  # add x5, x5, x6
-    .word 0x003c0313  # addi x6, x24, 3
-    .word 0x00231313  # slli x6, x6, 2
+    .word 0x002c1313  # slli x6, x24, 2
     .word 0x00230333  # add x6, x6, x2
-    .word 0x12032303  # lw x6, 288(x6)
+    .word 0x12c32303  # lw x6, 300(x6)
     .word 0x006282b3  # add x5, x5, x6
-    .word 0x003c8313  # addi x6, x25, 3
-    .word 0x00231313  # slli x6, x6, 2
+    .word 0x002c9313  # slli x6, x25, 2
     .word 0x00230333  # add x6, x6, x2
-    .word 0x16032303  # lw x6, 352(x6)
+    .word 0x16c32303  # lw x6, 364(x6)
     .word 0x006288b3  # add x17, x5, x6
     .word 0x011686b3  # add x13, x13, x17
     .word 0x01394ab3  # xor x21, x18, x19
@@ -859,15 +852,13 @@ hmac_sha256:
     .word 0x00d37333  # and x6, x6, x13
     .word 0x00f34333  # xor x6, x6, x15
     .word 0x006282b3  # add x5, x5, x6
-    .word 0x004c0313  # addi x6, x24, 4
-    .word 0x00231313  # slli x6, x6, 2
+    .word 0x002c1313  # slli x6, x24, 2
     .word 0x00230333  # add x6, x6, x2
-    .word 0x12032303  # lw x6, 288(x6)
+    .word 0x13032303  # lw x6, 304(x6)
     .word 0x006282b3  # add x5, x5, x6
-    .word 0x004c8313  # addi x6, x25, 4
-    .word 0x00231313  # slli x6, x6, 2
+    .word 0x002c9313  # slli x6, x25, 2
     .word 0x00230333  # add x6, x6, x2
-    .word 0x16032303  # lw x6, 352(x6)
+    .word 0x17032303  # lw x6, 368(x6)
     .word 0x00628833  # add x16, x5, x6
     .word 0x010a0a33  # add x20, x20, x16
     .word 0x0128cb33  # xor x22, x17, x18
@@ -902,15 +893,13 @@ hmac_sha256:
     .word 0x01437333  # and x6, x6, x20
     .word 0x00e34333  # xor x6, x6, x14
     .word 0x006282b3  # add x5, x5, x6
-    .word 0x005c0313  # addi x6, x24, 5
-    .word 0x00231313  # slli x6, x6, 2
+    .word 0x002c1313  # slli x6, x24, 2
     .word 0x00230333  # add x6, x6, x2
-    .word 0x12032303  # lw x6, 288(x6)
+    .word 0x13432303  # lw x6, 308(x6)
     .word 0x006282b3  # add x5, x5, x6
-    .word 0x005c8313  # addi x6, x25, 5
-    .word 0x00231313  # slli x6, x6, 2
+    .word 0x002c9313  # slli x6, x25, 2
     .word 0x00230333  # add x6, x6, x2
-    .word 0x16032303  # lw x6, 352(x6)
+    .word 0x17432303  # lw x6, 372(x6)
     .word 0x006287b3  # add x15, x5, x6
     .word 0x00f989b3  # add x19, x19, x15
     .word 0x01184ab3  # xor x21, x16, x17
@@ -945,15 +934,13 @@ hmac_sha256:
     .word 0x01337333  # and x6, x6, x19
     .word 0x00d34333  # xor x6, x6, x13
     .word 0x006282b3  # add x5, x5, x6
-    .word 0x006c0313  # addi x6, x24, 6
-    .word 0x00231313  # slli x6, x6, 2
+    .word 0x002c1313  # slli x6, x24, 2
     .word 0x00230333  # add x6, x6, x2
-    .word 0x12032303  # lw x6, 288(x6)
+    .word 0x13832303  # lw x6, 312(x6)
     .word 0x006282b3  # add x5, x5, x6
-    .word 0x006c8313  # addi x6, x25, 6
-    .word 0x00231313  # slli x6, x6, 2
+    .word 0x002c9313  # slli x6, x25, 2
     .word 0x00230333  # add x6, x6, x2
-    .word 0x16032303  # lw x6, 352(x6)
+    .word 0x17832303  # lw x6, 376(x6)
     .word 0x00628733  # add x14, x5, x6
     .word 0x00e90933  # add x18, x18, x14
     .word 0x0107cb33  # xor x22, x15, x16
@@ -988,15 +975,13 @@ hmac_sha256:
     .word 0x01237333  # and x6, x6, x18
     .word 0x01434333  # xor x6, x6, x20
     .word 0x006282b3  # add x5, x5, x6
-    .word 0x007c0313  # addi x6, x24, 7
-    .word 0x00231313  # slli x6, x6, 2
+    .word 0x002c1313  # slli x6, x24, 2
     .word 0x00230333  # add x6, x6, x2
-    .word 0x12032303  # lw x6, 288(x6)
+    .word 0x13c32303  # lw x6, 316(x6)
     .word 0x006282b3  # add x5, x5, x6
-    .word 0x007c8313  # addi x6, x25, 7
-    .word 0x00231313  # slli x6, x6, 2
+    .word 0x002c9313  # slli x6, x25, 2
     .word 0x00230333  # add x6, x6, x2
-    .word 0x16032303  # lw x6, 352(x6)
+    .word 0x17c32303  # lw x6, 380(x6)
     .word 0x006286b3  # add x13, x5, x6
     .word 0x00d888b3  # add x17, x17, x13
     .word 0x00f74ab3  # xor x21, x14, x15
@@ -1017,7 +1002,7 @@ hmac_sha256:
     .word 0x016286b3  # add x13, x5, x22
     .word 0x001b8b93  # addi x23, x23, 1
     .word 0x002bb293  # sltiu x5, x23, 2
-    .word 0xa80298e3  # bne x5, x0, -1392
+    .word 0xac0294e3  # bne x5, x0, -1336
     .word 0xfffb8b93  # addi x23, x23, -1
     .word 0x27412283  # lw x5, 628(x2)
     .word 0x00300313  # addi x6, x0, 3
@@ -1069,7 +1054,7 @@ hmac_sha256:
     .word 0x010d3293  # sltiu x5, x26, 16
     .word 0xf40298e3  # bne x5, x0, -176
     .word 0xfffd0d13  # addi x26, x26, -1
-    .word 0x99dff06f  # jal x0, -1636
+    .word 0x9d5ff06f  # jal x0, -1580
     .word 0x0e012283  # lw x5, 224(x2)
     .word 0x00d282b3  # add x5, x5, x13
     .word 0x0e512023  # sw x5, 224(x2)
@@ -1117,7 +1102,7 @@ hmac_sha256:
     .word 0x002282b3  # add x5, x5, x2
     .word 0x1062a023  # sw x6, 256(x5)
     .word 0xfc1ff06f  # jal x0, -64
-    .word 0xdfcff06f  # jal x0, -2564
+    .word 0xe38ff06f  # jal x0, -2504
     .word 0x2a012823  # sw x0, 688(x2)
     .word 0x00800293  # addi x5, x0, 8
     .word 0x2a512a23  # sw x5, 692(x2)
@@ -1125,7 +1110,7 @@ hmac_sha256:
     .word 0x2b412283  # lw x5, 692(x2)
     .word 0x005332b3  # sltu x5, x6, x5
     .word 0x00029463  # bne x5, x0, 8
-    .word 0x0640006f  # jal x0, 100
+    .word 0x0580006f  # jal x0, 88
     .word 0x26612e23  # sw x6, 636(x2)
     .word 0x00130313  # addi x6, x6, 1
     .word 0x2a612823  # sw x6, 688(x2)
@@ -1138,18 +1123,15 @@ hmac_sha256:
     .word 0x01875313  # srli x6, x14, 24
     .word 0x002c02b3  # add x5, x24, x2
     .word 0x0c628023  # sb x6, 192(x5)
-    .word 0x001c0293  # addi x5, x24, 1
     .word 0x01075313  # srli x6, x14, 16
-    .word 0x002282b3  # add x5, x5, x2
-    .word 0x0c628023  # sb x6, 192(x5)
-    .word 0x002c0293  # addi x5, x24, 2
+    .word 0x002c02b3  # add x5, x24, x2
+    .word 0x0c6280a3  # sb x6, 193(x5)
     .word 0x00875313  # srli x6, x14, 8
-    .word 0x002282b3  # add x5, x5, x2
-    .word 0x0c628023  # sb x6, 192(x5)
-    .word 0x003c0293  # addi x5, x24, 3
-    .word 0x002282b3  # add x5, x5, x2
-    .word 0x0ce28023  # sb x14, 192(x5)
-    .word 0xf91ff06f  # jal x0, -112
+    .word 0x002c02b3  # add x5, x24, x2
+    .word 0x0c628123  # sb x6, 194(x5)
+    .word 0x002c02b3  # add x5, x24, x2
+    .word 0x0ce281a3  # sb x14, 195(x5)
+    .word 0xf9dff06f  # jal x0, -100
     # the result
     .word 0x00000513  # addi x10, x0, 0
     # parameter 4: the array, back

@@ -1,4 +1,4 @@
-# hotp_digits: made by factc 1.0.0 function; 109 words, 48 bytes of stack, profile 1
+# hotp_digits: made by factc 1.0.0 function; 108 words, 48 bytes of stack, profile 1
     .option push
     .option norvc
     .option norelax
@@ -66,9 +66,8 @@ hotp_digits:
     .word 0x00000593  # addi x11, x0, 0
     .word 0x00000613  # addi x12, x0, 0
     .word 0x00851293  # slli x5, x10, 8
-    .word 0x00360313  # addi x6, x12, 3
-    .word 0x00230333  # add x6, x6, x2
-    .word 0x00034303  # lbu x6, 0(x6)
+    .word 0x00260333  # add x6, x12, x2
+    .word 0x00334303  # lbu x6, 3(x6)
     .word 0x0062e533  # or x10, x5, x6
     .word 0x40c482b3  # sub x5, x9, x12
     .word 0x005032b3  # sltu x5, x0, x5
@@ -78,7 +77,7 @@ hotp_digits:
     .word 0x0065c5b3  # xor x11, x11, x6
     .word 0x00160613  # addi x12, x12, 1
     .word 0x01063293  # sltiu x5, x12, 16
-    .word 0xfc0296e3  # bne x5, x0, -52
+    .word 0xfc0298e3  # bne x5, x0, -48
     .word 0xfff60613  # addi x12, x12, -1
     .word 0x00159593  # slli x11, x11, 1
     .word 0x0015d593  # srli x11, x11, 1

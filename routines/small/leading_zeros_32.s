@@ -1,4 +1,4 @@
-# leading_zeros_32: made by factc function; 70 words, 32 bytes of stack, profile 1
+# leading_zeros_32: made by factc 1.0.0 function; 70 words, 32 bytes of stack, profile 1
     .option push
     .option norvc
     .option norelax

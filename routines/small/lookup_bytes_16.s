@@ -1,4 +1,4 @@
-# lookup_bytes_16: made by factc function; 137 words, 320 bytes of stack, profile 1
+# lookup_bytes_16: made by factc 1.0.0 function; 137 words, 320 bytes of stack, profile 1
     .option push
     .option norvc
     .option norelax

@@ -1,4 +1,4 @@
-# lookup_bytes_32: made by factc function; 150 words, 592 bytes of stack, profile 1
+# lookup_bytes_32: made by factc 1.0.0 function; 150 words, 592 bytes of stack, profile 1
     .option push
     .option norvc
     .option norelax

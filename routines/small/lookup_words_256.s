@@ -1,4 +1,4 @@
-# lookup_words_256: made by factc function; 91 words, 1056 bytes of stack, profile 1
+# lookup_words_256: made by factc 1.0.0 function; 91 words, 1056 bytes of stack, profile 1
     .option push
     .option norvc
     .option norelax

@@ -1,4 +1,4 @@
-# md5_block: made by factc function; 697 words, 432 bytes of stack, profile 1
+# md5_block: made by factc 1.0.0 function; 679 words, 432 bytes of stack, profile 1
     .option push
     .option norvc
     .option norelax
@@ -104,18 +104,15 @@ md5_block:
     .word 0x00251813  # slli x16, x10, 2
     .word 0x002802b3  # add x5, x16, x2
     .word 0x0102c283  # lbu x5, 16(x5)
-    .word 0x00180313  # addi x6, x16, 1
-    .word 0x00230333  # add x6, x6, x2
-    .word 0x01034303  # lbu x6, 16(x6)
+    .word 0x00280333  # add x6, x16, x2
+    .word 0x01134303  # lbu x6, 17(x6)
     .word 0x00831313  # slli x6, x6, 8
     .word 0x0062e5b3  # or x11, x5, x6
-    .word 0x00280293  # addi x5, x16, 2
-    .word 0x002282b3  # add x5, x5, x2
-    .word 0x0102c283  # lbu x5, 16(x5)
+    .word 0x002802b3  # add x5, x16, x2
+    .word 0x0122c283  # lbu x5, 18(x5)
     .word 0x01029293  # slli x5, x5, 16
-    .word 0x00380313  # addi x6, x16, 3
-    .word 0x00230333  # add x6, x6, x2
-    .word 0x01034303  # lbu x6, 16(x6)
+    .word 0x00280333  # add x6, x16, x2
+    .word 0x01334303  # lbu x6, 19(x6)
     .word 0x01831313  # slli x6, x6, 24
     .word 0x0062e633  # or x12, x5, x6
     .word 0x00c5e333  # or x6, x11, x12
@@ -124,7 +121,7 @@ md5_block:
     .word 0x0462a823  # sw x6, 80(x5)
     .word 0x00150513  # addi x10, x10, 1
     .word 0x01053293  # sltiu x5, x10, 16
-    .word 0xfa0292e3  # bne x5, x0, -92
+    .word 0xfa0298e3  # bne x5, x0, -80
     .word 0xfff50513  # addi x10, x10, -1
     .word 0xd76aa2b7  # lui x5, 0xd76aa
     .word 0x47828293  # addi x5, x5, 1144
@@ -344,15 +341,13 @@ md5_block:
     .word 0x0085f3b3  # and x7, x11, x8
     .word 0x0076c333  # xor x6, x13, x7
     .word 0x006702b3  # add x5, x14, x6
-    .word 0x00180313  # addi x6, x16, 1
-    .word 0x00231313  # slli x6, x6, 2
+    .word 0x00281313  # slli x6, x16, 2
     .word 0x00230333  # add x6, x6, x2
-    .word 0x09032303  # lw x6, 144(x6)
+    .word 0x09432303  # lw x6, 148(x6)
     .word 0x006282b3  # add x5, x5, x6
-    .word 0x00180313  # addi x6, x16, 1
-    .word 0x00231313  # slli x6, x6, 2
+    .word 0x00281313  # slli x6, x16, 2
     .word 0x00230333  # add x6, x6, x2
-    .word 0x05032303  # lw x6, 80(x6)
+    .word 0x05432303  # lw x6, 84(x6)
     .word 0x00628733  # add x14, x5, x6
     .word 0x00c71f13  # slli x30, x14, 12
     .word 0x01475293  # srli x5, x14, 20
@@ -362,15 +357,13 @@ md5_block:
     .word 0x008773b3  # and x7, x14, x8
     .word 0x00764333  # xor x6, x12, x7
     .word 0x006682b3  # add x5, x13, x6
-    .word 0x00280313  # addi x6, x16, 2
-    .word 0x00231313  # slli x6, x6, 2
+    .word 0x00281313  # slli x6, x16, 2
     .word 0x00230333  # add x6, x6, x2
-    .word 0x09032303  # lw x6, 144(x6)
+    .word 0x09832303  # lw x6, 152(x6)
     .word 0x006282b3  # add x5, x5, x6
-    .word 0x00280313  # addi x6, x16, 2
-    .word 0x00231313  # slli x6, x6, 2
+    .word 0x00281313  # slli x6, x16, 2
     .word 0x00230333  # add x6, x6, x2
-    .word 0x05032303  # lw x6, 80(x6)
+    .word 0x05832303  # lw x6, 88(x6)
     .word 0x006286b3  # add x13, x5, x6
     .word 0x01169f13  # slli x30, x13, 17
     .word 0x00f6d293  # srli x5, x13, 15
@@ -380,15 +373,13 @@ md5_block:
     .word 0x0086f3b3  # and x7, x13, x8
     .word 0x0075c333  # xor x6, x11, x7
     .word 0x006602b3  # add x5, x12, x6
-    .word 0x00380313  # addi x6, x16, 3
-    .word 0x00231313  # slli x6, x6, 2
+    .word 0x00281313  # slli x6, x16, 2
     .word 0x00230333  # add x6, x6, x2
-    .word 0x09032303  # lw x6, 144(x6)
+    .word 0x09c32303  # lw x6, 156(x6)
     .word 0x006282b3  # add x5, x5, x6
-    .word 0x00380313  # addi x6, x16, 3
-    .word 0x00231313  # slli x6, x6, 2
+    .word 0x00281313  # slli x6, x16, 2
     .word 0x00230333  # add x6, x6, x2
-    .word 0x05032303  # lw x6, 80(x6)
+    .word 0x05c32303  # lw x6, 92(x6)
     .word 0x00628633  # add x12, x5, x6
     .word 0x01661f13  # slli x30, x12, 22
     .word 0x00a65293  # srli x5, x12, 10
@@ -396,7 +387,7 @@ md5_block:
     .word 0x00d28633  # add x12, x5, x13
     .word 0x00178793  # addi x15, x15, 1
     .word 0x0047b293  # sltiu x5, x15, 4
-    .word 0xec029ee3  # bne x5, x0, -292
+    .word 0xee029ae3  # bne x5, x0, -268
     .word 0xfff78793  # addi x15, x15, -1
     .word 0x00400893  # addi x17, x0, 4
     .word 0x00289813  # slli x16, x17, 2
@@ -422,10 +413,9 @@ md5_block:
     .word 0x0086f3b3  # and x7, x13, x8
     .word 0x00764333  # xor x6, x12, x7
     .word 0x006702b3  # add x5, x14, x6
-    .word 0x00180313  # addi x6, x16, 1
-    .word 0x00231313  # slli x6, x6, 2
+    .word 0x00281313  # slli x6, x16, 2
     .word 0x00230333  # add x6, x6, x2
-    .word 0x09032303  # lw x6, 144(x6)
+    .word 0x09432303  # lw x6, 148(x6)
     .word 0x006282b3  # add x5, x5, x6
     .word 0x00680313  # addi x6, x16, 6
     .word 0x00f37313  # andi x6, x6, 15
@@ -441,10 +431,9 @@ md5_block:
     .word 0x008673b3  # and x7, x12, x8
     .word 0x0075c333  # xor x6, x11, x7
     .word 0x006682b3  # add x5, x13, x6
-    .word 0x00280313  # addi x6, x16, 2
-    .word 0x00231313  # slli x6, x6, 2
+    .word 0x00281313  # slli x6, x16, 2
     .word 0x00230333  # add x6, x6, x2
-    .word 0x09032303  # lw x6, 144(x6)
+    .word 0x09832303  # lw x6, 152(x6)
     .word 0x006282b3  # add x5, x5, x6
     .word 0x00b80313  # addi x6, x16, 11
     .word 0x00f37313  # andi x6, x6, 15
@@ -460,10 +449,9 @@ md5_block:
     .word 0x0085f3b3  # and x7, x11, x8
     .word 0x00774333  # xor x6, x14, x7
     .word 0x006602b3  # add x5, x12, x6
-    .word 0x00380313  # addi x6, x16, 3
-    .word 0x00231313  # slli x6, x6, 2
+    .word 0x00281313  # slli x6, x16, 2
     .word 0x00230333  # add x6, x6, x2
-    .word 0x09032303  # lw x6, 144(x6)
+    .word 0x09c32303  # lw x6, 156(x6)
     .word 0x006282b3  # add x5, x5, x6
     .word 0x01080313  # addi x6, x16, 16
     .word 0x00f37313  # andi x6, x6, 15
@@ -477,7 +465,7 @@ md5_block:
     .word 0x00d28633  # add x12, x5, x13
     .word 0x00188893  # addi x17, x17, 1
     .word 0x0088b293  # sltiu x5, x17, 8
-    .word 0xec0294e3  # bne x5, x0, -312
+    .word 0xec029ae3  # bne x5, x0, -300
     .word 0xfff88893  # addi x17, x17, -1
     .word 0x00800913  # addi x18, x0, 8
     .word 0x00291813  # slli x16, x18, 2
@@ -502,10 +490,9 @@ md5_block:
     .word 0x00c5c333  # xor x6, x11, x12
     .word 0x00d34333  # xor x6, x6, x13
     .word 0x006702b3  # add x5, x14, x6
-    .word 0x00180313  # addi x6, x16, 1
-    .word 0x00231313  # slli x6, x6, 2
+    .word 0x00281313  # slli x6, x16, 2
     .word 0x00230333  # add x6, x6, x2
-    .word 0x09032303  # lw x6, 144(x6)
+    .word 0x09432303  # lw x6, 148(x6)
     .word 0x006282b3  # add x5, x5, x6
     .word 0x00800313  # addi x6, x0, 8
     .word 0x41030333  # sub x6, x6, x16
@@ -521,10 +508,9 @@ md5_block:
     .word 0x00b74333  # xor x6, x14, x11
     .word 0x00c34333  # xor x6, x6, x12
     .word 0x006682b3  # add x5, x13, x6
-    .word 0x00280313  # addi x6, x16, 2
-    .word 0x00231313  # slli x6, x6, 2
+    .word 0x00281313  # slli x6, x16, 2
     .word 0x00230333  # add x6, x6, x2
-    .word 0x09032303  # lw x6, 144(x6)
+    .word 0x09832303  # lw x6, 152(x6)
     .word 0x006282b3  # add x5, x5, x6
     .word 0x00b00313  # addi x6, x0, 11
     .word 0x41030333  # sub x6, x6, x16
@@ -540,10 +526,9 @@ md5_block:
     .word 0x00e6c333  # xor x6, x13, x14
     .word 0x00b34333  # xor x6, x6, x11
     .word 0x006602b3  # add x5, x12, x6
-    .word 0x00380313  # addi x6, x16, 3
-    .word 0x00231313  # slli x6, x6, 2
+    .word 0x00281313  # slli x6, x16, 2
     .word 0x00230333  # add x6, x6, x2
-    .word 0x09032303  # lw x6, 144(x6)
+    .word 0x09c32303  # lw x6, 156(x6)
     .word 0x006282b3  # add x5, x5, x6
     .word 0x00e00313  # addi x6, x0, 14
     .word 0x41030333  # sub x6, x6, x16
@@ -558,7 +543,7 @@ md5_block:
     .word 0x00d28633  # add x12, x5, x13
     .word 0x00190913  # addi x18, x18, 1
     .word 0x00c93293  # sltiu x5, x18, 12
-    .word 0xec0294e3  # bne x5, x0, -312
+    .word 0xec029ae3  # bne x5, x0, -300
     .word 0xfff90913  # addi x18, x18, -1
     .word 0x00c00993  # addi x19, x0, 12
     .word 0x00299813  # slli x16, x19, 2
@@ -584,10 +569,9 @@ md5_block:
     .word 0x0085e3b3  # or x7, x11, x8
     .word 0x00764333  # xor x6, x12, x7
     .word 0x006702b3  # add x5, x14, x6
-    .word 0x00180313  # addi x6, x16, 1
-    .word 0x00231313  # slli x6, x6, 2
+    .word 0x00281313  # slli x6, x16, 2
     .word 0x00230333  # add x6, x6, x2
-    .word 0x09032303  # lw x6, 144(x6)
+    .word 0x09432303  # lw x6, 148(x6)
     .word 0x006282b3  # add x5, x5, x6
     .word 0x00700313  # addi x6, x0, 7
     .word 0x41030333  # sub x6, x6, x16
@@ -604,10 +588,9 @@ md5_block:
     .word 0x008763b3  # or x7, x14, x8
     .word 0x0075c333  # xor x6, x11, x7
     .word 0x006682b3  # add x5, x13, x6
-    .word 0x00280313  # addi x6, x16, 2
-    .word 0x00231313  # slli x6, x6, 2
+    .word 0x00281313  # slli x6, x16, 2
     .word 0x00230333  # add x6, x6, x2
-    .word 0x09032303  # lw x6, 144(x6)
+    .word 0x09832303  # lw x6, 152(x6)
     .word 0x006282b3  # add x5, x5, x6
     .word 0x00e00313  # addi x6, x0, 14
     .word 0x41030333  # sub x6, x6, x16
@@ -624,10 +607,9 @@ md5_block:
     .word 0x0086e3b3  # or x7, x13, x8
     .word 0x00774333  # xor x6, x14, x7
     .word 0x006602b3  # add x5, x12, x6
-    .word 0x00380313  # addi x6, x16, 3
-    .word 0x00231313  # slli x6, x6, 2
+    .word 0x00281313  # slli x6, x16, 2
     .word 0x00230333  # add x6, x6, x2
-    .word 0x09032303  # lw x6, 144(x6)
+    .word 0x09c32303  # lw x6, 156(x6)
     .word 0x006282b3  # add x5, x5, x6
     .word 0x01500313  # addi x6, x0, 21
     .word 0x41030333  # sub x6, x6, x16
@@ -642,7 +624,7 @@ md5_block:
     .word 0x00d28633  # add x12, x5, x13
     .word 0x00198993  # addi x19, x19, 1
     .word 0x0109b293  # sltiu x5, x19, 16
-    .word 0xea029ee3  # bne x5, x0, -324
+    .word 0xec0294e3  # bne x5, x0, -312
     .word 0xfff98993  # addi x19, x19, -1
     .word 0x00012283  # lw x5, 0(x2)
     .word 0x00b282b3  # add x5, x5, x11

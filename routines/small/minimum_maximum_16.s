@@ -1,4 +1,4 @@
-# minimum_maximum_16: made by factc function; 110 words, 112 bytes of stack, profile 1
+# minimum_maximum_16: made by factc 1.0.0 function; 110 words, 112 bytes of stack, profile 1
     .option push
     .option norvc
     .option norelax

@@ -1,4 +1,4 @@
-# mlkem_decompress: made by factc function; 155 words, 544 bytes of stack, profile 1
+# mlkem_decompress: made by factc 1.0.0 function; 155 words, 544 bytes of stack, profile 1
     .option push
     .option norvc
     .option norelax

@@ -1,4 +1,4 @@
-# mlkem_multiply_ntts: made by factc 1.0.0 function; 431 words, 1856 bytes of stack, profile 1
+# mlkem_multiply_ntts: made by factc 1.0.0 function; 428 words, 1856 bytes of stack, profile 1
     .option push
     .option norvc
     .option norelax
@@ -324,17 +324,15 @@ mlkem_multiply_ntts:
     .word 0x00151593  # slli x11, x10, 1
     .word 0x002585b3  # add x11, x11, x2
     .word 0x0005d583  # lhu x11, 0(x11)
-    .word 0x00150293  # addi x5, x10, 1
-    .word 0x00129613  # slli x12, x5, 1
+    .word 0x00151613  # slli x12, x10, 1
     .word 0x00260633  # add x12, x12, x2
-    .word 0x00065603  # lhu x12, 0(x12)
+    .word 0x00265603  # lhu x12, 2(x12)
     .word 0x00151693  # slli x13, x10, 1
     .word 0x002686b3  # add x13, x13, x2
     .word 0x2006d683  # lhu x13, 512(x13)
-    .word 0x00150293  # addi x5, x10, 1
-    .word 0x00129713  # slli x14, x5, 1
+    .word 0x00151713  # slli x14, x10, 1
     .word 0x00270733  # add x14, x14, x2
-    .word 0x20075703  # lhu x14, 512(x14)
+    .word 0x20275703  # lhu x14, 514(x14)
     .word 0x02e607b3  # mul x15, x12, x14
     .word 0x0317b833  # mulhu x16, x15, x17
     .word 0x00b85313  # srli x6, x16, 11
@@ -363,17 +361,16 @@ mlkem_multiply_ntts:
     .word 0x00151293  # slli x5, x10, 1
     .word 0x002282b3  # add x5, x5, x2
     .word 0x41029023  # sh x16, 1024(x5)
-    .word 0x00150293  # addi x5, x10, 1
-    .word 0x00129293  # slli x5, x5, 1
+    .word 0x00151293  # slli x5, x10, 1
     .word 0x002282b3  # add x5, x5, x2
-    .word 0x40f29023  # sh x15, 1024(x5)
+    .word 0x40f29123  # sh x15, 1026(x5)
     .word 0x00148493  # addi x9, x9, 1
     .word 0x0024b293  # sltiu x5, x9, 2
-    .word 0xf2029ae3  # bne x5, x0, -204
+    .word 0xf40290e3  # bne x5, x0, -192
     .word 0xfff48493  # addi x9, x9, -1
     .word 0x00140413  # addi x8, x8, 1
     .word 0x04043293  # sltiu x5, x8, 64
-    .word 0xf20290e3  # bne x5, x0, -224
+    .word 0xf20296e3  # bne x5, x0, -212
     .word 0xfff40413  # addi x8, x8, -1
     # the result
     .word 0x00000513  # addi x10, x0, 0

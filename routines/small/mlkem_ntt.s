@@ -1,4 +1,4 @@
-# mlkem_ntt: made by factc 1.0.0 function; 1000 words, 1136 bytes of stack, profile 1
+# mlkem_ntt: made by factc 1.0.0 function; 958 words, 1136 bytes of stack, profile 1
     .option push
     .option norvc
     .option norelax
@@ -494,7 +494,7 @@ mlkem_ntt:
     .word 0x41c12283  # lw x5, 1052(x2)
     .word 0x005332b3  # sltu x5, x6, x5
     .word 0x00029463  # bne x5, x0, 8
-    .word 0x2c00006f  # jal x0, 704
+    .word 0x2780006f  # jal x0, 632
     .word 0x40612023  # sw x6, 1024(x2)
     .word 0x00130313  # addi x6, x6, 1
     .word 0x40612c23  # sw x6, 1048(x2)
@@ -508,29 +508,25 @@ mlkem_ntt:
     .word 0x002484b3  # add x9, x9, x2
     .word 0x2004a483  # lw x9, 512(x9)
     .word 0x00179293  # slli x5, x15, 1
-    .word 0x00128293  # addi x5, x5, 1
     .word 0x00229513  # slli x10, x5, 2
     .word 0x00250533  # add x10, x10, x2
-    .word 0x20052503  # lw x10, 512(x10)
+    .word 0x20452503  # lw x10, 516(x10)
     .word 0x00279293  # slli x5, x15, 2
     .word 0x00229593  # slli x11, x5, 2
     .word 0x002585b3  # add x11, x11, x2
     .word 0x2005a583  # lw x11, 512(x11)
     .word 0x00279293  # slli x5, x15, 2
-    .word 0x00128293  # addi x5, x5, 1
     .word 0x00229613  # slli x12, x5, 2
     .word 0x00260633  # add x12, x12, x2
-    .word 0x20062603  # lw x12, 512(x12)
+    .word 0x20462603  # lw x12, 516(x12)
     .word 0x00279293  # slli x5, x15, 2
-    .word 0x00228293  # addi x5, x5, 2
     .word 0x00229693  # slli x13, x5, 2
     .word 0x002686b3  # add x13, x13, x2
-    .word 0x2006a683  # lw x13, 512(x13)
+    .word 0x2086a683  # lw x13, 520(x13)
     .word 0x00279293  # slli x5, x15, 2
-    .word 0x00328293  # addi x5, x5, 3
     .word 0x00229713  # slli x14, x5, 2
     .word 0x00270733  # add x14, x14, x2
-    .word 0x20072703  # lw x14, 512(x14)
+    .word 0x20c72703  # lw x14, 524(x14)
     .word 0x42012023  # sw x0, 1056(x2)
     .word 0x02000293  # addi x5, x0, 32
     .word 0x42512223  # sw x5, 1060(x2)
@@ -538,7 +534,7 @@ mlkem_ntt:
     .word 0x42412283  # lw x5, 1060(x2)
     .word 0x005332b3  # sltu x5, x6, x5
     .word 0x00029463  # bne x5, x0, 8
-    .word 0x20c0006f  # jal x0, 524
+    .word 0x1d40006f  # jal x0, 468
     .word 0x40612223  # sw x6, 1028(x2)
     .word 0x00130313  # addi x6, x6, 1
     .word 0x42612023  # sw x6, 1056(x2)
@@ -549,34 +545,27 @@ mlkem_ntt:
     .word 0x00179b93  # slli x23, x15, 1
     .word 0x002b8bb3  # add x23, x23, x2
     .word 0x000bdb83  # lhu x23, 0(x23)
-    .word 0x02078293  # addi x5, x15, 32
-    .word 0x00129813  # slli x16, x5, 1
+    .word 0x00179813  # slli x16, x15, 1
     .word 0x00280833  # add x16, x16, x2
-    .word 0x00085803  # lhu x16, 0(x16)
-    .word 0x04078293  # addi x5, x15, 64
-    .word 0x00129893  # slli x17, x5, 1
+    .word 0x04085803  # lhu x16, 64(x16)
+    .word 0x00179893  # slli x17, x15, 1
     .word 0x002888b3  # add x17, x17, x2
-    .word 0x0008d883  # lhu x17, 0(x17)
-    .word 0x06078293  # addi x5, x15, 96
-    .word 0x00129913  # slli x18, x5, 1
+    .word 0x0808d883  # lhu x17, 128(x17)
+    .word 0x00179913  # slli x18, x15, 1
     .word 0x00290933  # add x18, x18, x2
-    .word 0x00095903  # lhu x18, 0(x18)
-    .word 0x08078293  # addi x5, x15, 128
-    .word 0x00129993  # slli x19, x5, 1
+    .word 0x0c095903  # lhu x18, 192(x18)
+    .word 0x00179993  # slli x19, x15, 1
     .word 0x002989b3  # add x19, x19, x2
-    .word 0x0009d983  # lhu x19, 0(x19)
-    .word 0x0a078293  # addi x5, x15, 160
-    .word 0x00129a13  # slli x20, x5, 1
+    .word 0x1009d983  # lhu x19, 256(x19)
+    .word 0x00179a13  # slli x20, x15, 1
     .word 0x002a0a33  # add x20, x20, x2
-    .word 0x000a5a03  # lhu x20, 0(x20)
-    .word 0x0c078293  # addi x5, x15, 192
-    .word 0x00129a93  # slli x21, x5, 1
+    .word 0x140a5a03  # lhu x20, 320(x20)
+    .word 0x00179a93  # slli x21, x15, 1
     .word 0x002a8ab3  # add x21, x21, x2
-    .word 0x000ada83  # lhu x21, 0(x21)
-    .word 0x0e078293  # addi x5, x15, 224
-    .word 0x00129b13  # slli x22, x5, 1
+    .word 0x180ada83  # lhu x21, 384(x21)
+    .word 0x00179b13  # slli x22, x15, 1
     .word 0x002b0b33  # add x22, x22, x2
-    .word 0x000b5b03  # lhu x22, 0(x22)
+    .word 0x1c0b5b03  # lhu x22, 448(x22)
     .word 0x028989b3  # mul x19, x19, x8
     .word 0x03b9bc33  # mulhu x24, x19, x27
     .word 0x01bb82b3  # add x5, x23, x27
@@ -640,36 +629,29 @@ mlkem_ntt:
     .word 0x00179293  # slli x5, x15, 1
     .word 0x002282b3  # add x5, x5, x2
     .word 0x01729023  # sh x23, 0(x5)
-    .word 0x02078293  # addi x5, x15, 32
-    .word 0x00129293  # slli x5, x5, 1
+    .word 0x00179293  # slli x5, x15, 1
     .word 0x002282b3  # add x5, x5, x2
-    .word 0x01029023  # sh x16, 0(x5)
-    .word 0x04078293  # addi x5, x15, 64
-    .word 0x00129293  # slli x5, x5, 1
+    .word 0x05029023  # sh x16, 64(x5)
+    .word 0x00179293  # slli x5, x15, 1
     .word 0x002282b3  # add x5, x5, x2
-    .word 0x01129023  # sh x17, 0(x5)
-    .word 0x06078293  # addi x5, x15, 96
-    .word 0x00129293  # slli x5, x5, 1
+    .word 0x09129023  # sh x17, 128(x5)
+    .word 0x00179293  # slli x5, x15, 1
     .word 0x002282b3  # add x5, x5, x2
-    .word 0x01229023  # sh x18, 0(x5)
-    .word 0x08078293  # addi x5, x15, 128
-    .word 0x00129293  # slli x5, x5, 1
+    .word 0x0d229023  # sh x18, 192(x5)
+    .word 0x00179293  # slli x5, x15, 1
     .word 0x002282b3  # add x5, x5, x2
-    .word 0x01329023  # sh x19, 0(x5)
-    .word 0x0a078293  # addi x5, x15, 160
-    .word 0x00129293  # slli x5, x5, 1
+    .word 0x11329023  # sh x19, 256(x5)
+    .word 0x00179293  # slli x5, x15, 1
     .word 0x002282b3  # add x5, x5, x2
-    .word 0x01429023  # sh x20, 0(x5)
-    .word 0x0c078293  # addi x5, x15, 192
-    .word 0x00129293  # slli x5, x5, 1
+    .word 0x15429023  # sh x20, 320(x5)
+    .word 0x00179293  # slli x5, x15, 1
     .word 0x002282b3  # add x5, x5, x2
-    .word 0x01529023  # sh x21, 0(x5)
-    .word 0x0e078293  # addi x5, x15, 224
-    .word 0x00129293  # slli x5, x5, 1
+    .word 0x19529023  # sh x21, 384(x5)
+    .word 0x00179293  # slli x5, x15, 1
     .word 0x002282b3  # add x5, x5, x2
-    .word 0x01629023  # sh x22, 0(x5)
-    .word 0xde9ff06f  # jal x0, -536
-    .word 0xd35ff06f  # jal x0, -716
+    .word 0x1d629023  # sh x22, 448(x5)
+    .word 0xe21ff06f  # jal x0, -480
+    .word 0xd7dff06f  # jal x0, -644
     .word 0x40012c23  # sw x0, 1048(x2)
     .word 0x00800293  # addi x5, x0, 8
     .word 0x40512e23  # sw x5, 1052(x2)
@@ -677,7 +659,7 @@ mlkem_ntt:
     .word 0x41c12283  # lw x5, 1052(x2)
     .word 0x005332b3  # sltu x5, x6, x5
     .word 0x00029463  # bne x5, x0, 8
-    .word 0x2c00006f  # jal x0, 704
+    .word 0x2780006f  # jal x0, 632
     .word 0x40612423  # sw x6, 1032(x2)
     .word 0x00130313  # addi x6, x6, 1
     .word 0x40612c23  # sw x6, 1048(x2)
@@ -691,29 +673,25 @@ mlkem_ntt:
     .word 0x002484b3  # add x9, x9, x2
     .word 0x2004a483  # lw x9, 512(x9)
     .word 0x00179293  # slli x5, x15, 1
-    .word 0x00128293  # addi x5, x5, 1
     .word 0x00229513  # slli x10, x5, 2
     .word 0x00250533  # add x10, x10, x2
-    .word 0x20052503  # lw x10, 512(x10)
+    .word 0x20452503  # lw x10, 516(x10)
     .word 0x00279293  # slli x5, x15, 2
     .word 0x00229593  # slli x11, x5, 2
     .word 0x002585b3  # add x11, x11, x2
     .word 0x2005a583  # lw x11, 512(x11)
     .word 0x00279293  # slli x5, x15, 2
-    .word 0x00128293  # addi x5, x5, 1
     .word 0x00229613  # slli x12, x5, 2
     .word 0x00260633  # add x12, x12, x2
-    .word 0x20062603  # lw x12, 512(x12)
+    .word 0x20462603  # lw x12, 516(x12)
     .word 0x00279293  # slli x5, x15, 2
-    .word 0x00228293  # addi x5, x5, 2
     .word 0x00229693  # slli x13, x5, 2
     .word 0x002686b3  # add x13, x13, x2
-    .word 0x2006a683  # lw x13, 512(x13)
+    .word 0x2086a683  # lw x13, 520(x13)
     .word 0x00279293  # slli x5, x15, 2
-    .word 0x00328293  # addi x5, x5, 3
     .word 0x00229713  # slli x14, x5, 2
     .word 0x00270733  # add x14, x14, x2
-    .word 0x20072703  # lw x14, 512(x14)
+    .word 0x20c72703  # lw x14, 524(x14)
     .word 0x42012023  # sw x0, 1056(x2)
     .word 0x00400293  # addi x5, x0, 4
     .word 0x42512223  # sw x5, 1060(x2)
@@ -721,7 +699,7 @@ mlkem_ntt:
     .word 0x42412283  # lw x5, 1060(x2)
     .word 0x005332b3  # sltu x5, x6, x5
     .word 0x00029463  # bne x5, x0, 8
-    .word 0x20c0006f  # jal x0, 524
+    .word 0x1d40006f  # jal x0, 468
     .word 0x40612623  # sw x6, 1036(x2)
     .word 0x00130313  # addi x6, x6, 1
     .word 0x42612023  # sw x6, 1056(x2)
@@ -732,34 +710,27 @@ mlkem_ntt:
     .word 0x00179b93  # slli x23, x15, 1
     .word 0x002b8bb3  # add x23, x23, x2
     .word 0x000bdb83  # lhu x23, 0(x23)
-    .word 0x00478293  # addi x5, x15, 4
-    .word 0x00129813  # slli x16, x5, 1
+    .word 0x00179813  # slli x16, x15, 1
     .word 0x00280833  # add x16, x16, x2
-    .word 0x00085803  # lhu x16, 0(x16)
-    .word 0x00878293  # addi x5, x15, 8
-    .word 0x00129893  # slli x17, x5, 1
+    .word 0x00885803  # lhu x16, 8(x16)
+    .word 0x00179893  # slli x17, x15, 1
     .word 0x002888b3  # add x17, x17, x2
-    .word 0x0008d883  # lhu x17, 0(x17)
-    .word 0x00c78293  # addi x5, x15, 12
-    .word 0x00129913  # slli x18, x5, 1
+    .word 0x0108d883  # lhu x17, 16(x17)
+    .word 0x00179913  # slli x18, x15, 1
     .word 0x00290933  # add x18, x18, x2
-    .word 0x00095903  # lhu x18, 0(x18)
-    .word 0x01078293  # addi x5, x15, 16
-    .word 0x00129993  # slli x19, x5, 1
+    .word 0x01895903  # lhu x18, 24(x18)
+    .word 0x00179993  # slli x19, x15, 1
     .word 0x002989b3  # add x19, x19, x2
-    .word 0x0009d983  # lhu x19, 0(x19)
-    .word 0x01478293  # addi x5, x15, 20
-    .word 0x00129a13  # slli x20, x5, 1
+    .word 0x0209d983  # lhu x19, 32(x19)
+    .word 0x00179a13  # slli x20, x15, 1
     .word 0x002a0a33  # add x20, x20, x2
-    .word 0x000a5a03  # lhu x20, 0(x20)
-    .word 0x01878293  # addi x5, x15, 24
-    .word 0x00129a93  # slli x21, x5, 1
+    .word 0x028a5a03  # lhu x20, 40(x20)
+    .word 0x00179a93  # slli x21, x15, 1
     .word 0x002a8ab3  # add x21, x21, x2
-    .word 0x000ada83  # lhu x21, 0(x21)
-    .word 0x01c78293  # addi x5, x15, 28
-    .word 0x00129b13  # slli x22, x5, 1
+    .word 0x030ada83  # lhu x21, 48(x21)
+    .word 0x00179b13  # slli x22, x15, 1
     .word 0x002b0b33  # add x22, x22, x2
-    .word 0x000b5b03  # lhu x22, 0(x22)
+    .word 0x038b5b03  # lhu x22, 56(x22)
     .word 0x028989b3  # mul x19, x19, x8
     .word 0x03b9bc33  # mulhu x24, x19, x27
     .word 0x01bb82b3  # add x5, x23, x27
@@ -823,36 +794,29 @@ mlkem_ntt:
     .word 0x00179293  # slli x5, x15, 1
     .word 0x002282b3  # add x5, x5, x2
     .word 0x01729023  # sh x23, 0(x5)
-    .word 0x00478293  # addi x5, x15, 4
-    .word 0x00129293  # slli x5, x5, 1
+    .word 0x00179293  # slli x5, x15, 1
     .word 0x002282b3  # add x5, x5, x2
-    .word 0x01029023  # sh x16, 0(x5)
-    .word 0x00878293  # addi x5, x15, 8
-    .word 0x00129293  # slli x5, x5, 1
+    .word 0x01029423  # sh x16, 8(x5)
+    .word 0x00179293  # slli x5, x15, 1
     .word 0x002282b3  # add x5, x5, x2
-    .word 0x01129023  # sh x17, 0(x5)
-    .word 0x00c78293  # addi x5, x15, 12
-    .word 0x00129293  # slli x5, x5, 1
+    .word 0x01129823  # sh x17, 16(x5)
+    .word 0x00179293  # slli x5, x15, 1
     .word 0x002282b3  # add x5, x5, x2
-    .word 0x01229023  # sh x18, 0(x5)
-    .word 0x01078293  # addi x5, x15, 16
-    .word 0x00129293  # slli x5, x5, 1
+    .word 0x01229c23  # sh x18, 24(x5)
+    .word 0x00179293  # slli x5, x15, 1
     .word 0x002282b3  # add x5, x5, x2
-    .word 0x01329023  # sh x19, 0(x5)
-    .word 0x01478293  # addi x5, x15, 20
-    .word 0x00129293  # slli x5, x5, 1
+    .word 0x03329023  # sh x19, 32(x5)
+    .word 0x00179293  # slli x5, x15, 1
     .word 0x002282b3  # add x5, x5, x2
-    .word 0x01429023  # sh x20, 0(x5)
-    .word 0x01878293  # addi x5, x15, 24
-    .word 0x00129293  # slli x5, x5, 1
+    .word 0x03429423  # sh x20, 40(x5)
+    .word 0x00179293  # slli x5, x15, 1
     .word 0x002282b3  # add x5, x5, x2
-    .word 0x01529023  # sh x21, 0(x5)
-    .word 0x01c78293  # addi x5, x15, 28
-    .word 0x00129293  # slli x5, x5, 1
+    .word 0x03529823  # sh x21, 48(x5)
+    .word 0x00179293  # slli x5, x15, 1
     .word 0x002282b3  # add x5, x5, x2
-    .word 0x01629023  # sh x22, 0(x5)
-    .word 0xde9ff06f  # jal x0, -536
-    .word 0xd35ff06f  # jal x0, -716
+    .word 0x03629c23  # sh x22, 56(x5)
+    .word 0xe21ff06f  # jal x0, -480
+    .word 0xd7dff06f  # jal x0, -644
     .word 0x40012c23  # sw x0, 1048(x2)
     .word 0x00800293  # addi x5, x0, 8
     .word 0x40512e23  # sw x5, 1052(x2)
@@ -860,7 +824,7 @@ mlkem_ntt:
     .word 0x41c12283  # lw x5, 1052(x2)
     .word 0x005332b3  # sltu x5, x6, x5
     .word 0x00029463  # bne x5, x0, 8
-    .word 0x1140006f  # jal x0, 276
+    .word 0x0fc0006f  # jal x0, 252
     .word 0x40612823  # sw x6, 1040(x2)
     .word 0x00130313  # addi x6, x6, 1
     .word 0x40612c23  # sw x6, 1048(x2)
@@ -879,18 +843,15 @@ mlkem_ntt:
     .word 0x00179b93  # slli x23, x15, 1
     .word 0x002b8bb3  # add x23, x23, x2
     .word 0x000bdb83  # lhu x23, 0(x23)
-    .word 0x00178293  # addi x5, x15, 1
-    .word 0x00129813  # slli x16, x5, 1
+    .word 0x00179813  # slli x16, x15, 1
     .word 0x00280833  # add x16, x16, x2
-    .word 0x00085803  # lhu x16, 0(x16)
-    .word 0x00278293  # addi x5, x15, 2
-    .word 0x00129893  # slli x17, x5, 1
+    .word 0x00285803  # lhu x16, 2(x16)
+    .word 0x00179893  # slli x17, x15, 1
     .word 0x002888b3  # add x17, x17, x2
-    .word 0x0008d883  # lhu x17, 0(x17)
-    .word 0x00378293  # addi x5, x15, 3
-    .word 0x00129913  # slli x18, x5, 1
+    .word 0x0048d883  # lhu x17, 4(x17)
+    .word 0x00179913  # slli x18, x15, 1
     .word 0x00290933  # add x18, x18, x2
-    .word 0x00095903  # lhu x18, 0(x18)
+    .word 0x00695903  # lhu x18, 6(x18)
     .word 0x028888b3  # mul x17, x17, x8
     .word 0x03b8b9b3  # mulhu x19, x17, x27
     .word 0x01bb82b3  # add x5, x23, x27
@@ -912,23 +873,20 @@ mlkem_ntt:
     .word 0x00179293  # slli x5, x15, 1
     .word 0x002282b3  # add x5, x5, x2
     .word 0x01729023  # sh x23, 0(x5)
-    .word 0x00178293  # addi x5, x15, 1
-    .word 0x00129293  # slli x5, x5, 1
+    .word 0x00179293  # slli x5, x15, 1
     .word 0x002282b3  # add x5, x5, x2
-    .word 0x01029023  # sh x16, 0(x5)
-    .word 0x00278293  # addi x5, x15, 2
-    .word 0x00129293  # slli x5, x5, 1
+    .word 0x01029123  # sh x16, 2(x5)
+    .word 0x00179293  # slli x5, x15, 1
     .word 0x002282b3  # add x5, x5, x2
-    .word 0x01129023  # sh x17, 0(x5)
-    .word 0x00378293  # addi x5, x15, 3
-    .word 0x00129293  # slli x5, x5, 1
+    .word 0x01129223  # sh x17, 4(x5)
+    .word 0x00179293  # slli x5, x15, 1
     .word 0x002282b3  # add x5, x5, x2
-    .word 0x01229023  # sh x18, 0(x5)
+    .word 0x01229323  # sh x18, 6(x5)
     .word 0x001c8c93  # addi x25, x25, 1
     .word 0x008cb293  # sltiu x5, x25, 8
-    .word 0xf00296e3  # bne x5, x0, -244
+    .word 0xf20292e3  # bne x5, x0, -220
     .word 0xfffc8c93  # addi x25, x25, -1
-    .word 0xee1ff06f  # jal x0, -288
+    .word 0xef9ff06f  # jal x0, -264
     # the result
     .word 0x00000513  # addi x10, x0, 0
     # parameter 0: the array, back

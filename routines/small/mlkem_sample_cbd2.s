@@ -1,4 +1,4 @@
-# mlkem_sample_cbd2: made by factc function; 210 words, 672 bytes of stack, profile 1
+# mlkem_sample_cbd2: made by factc 1.0.0 function; 209 words, 672 bytes of stack, profile 1
     .option push
     .option norvc
     .option norelax
@@ -135,14 +135,13 @@ mlkem_sample_cbd2:
     .word 0x406285b3  # sub x11, x5, x6
     .word 0x0105d293  # srli x5, x11, 16
     .word 0x0082f633  # and x12, x5, x8
-    .word 0x00150293  # addi x5, x10, 1
     .word 0x00c58333  # add x6, x11, x12
-    .word 0x00129293  # slli x5, x5, 1
+    .word 0x00151293  # slli x5, x10, 1
     .word 0x002282b3  # add x5, x5, x2
-    .word 0x08629023  # sh x6, 128(x5)
+    .word 0x08629123  # sh x6, 130(x5)
     .word 0x00148493  # addi x9, x9, 1
     .word 0x0804b293  # sltiu x5, x9, 128
-    .word 0xf80294e3  # bne x5, x0, -120
+    .word 0xf80296e3  # bne x5, x0, -116
     .word 0xfff48493  # addi x9, x9, -1
     # the result
     .word 0x00000513  # addi x10, x0, 0

@@ -1,4 +1,4 @@
-# mlkem_sample_cbd3: made by factc function; 252 words, 736 bytes of stack, profile 1
+# mlkem_sample_cbd3: made by factc 1.0.0 function; 250 words, 736 bytes of stack, profile 1
     .option push
     .option norvc
     .option norelax
@@ -120,14 +120,12 @@ mlkem_sample_cbd3:
     .word 0x00251613  # slli x12, x10, 2
     .word 0x002582b3  # add x5, x11, x2
     .word 0x0002c283  # lbu x5, 0(x5)
-    .word 0x00158313  # addi x6, x11, 1
-    .word 0x00230333  # add x6, x6, x2
-    .word 0x00034303  # lbu x6, 0(x6)
+    .word 0x00258333  # add x6, x11, x2
+    .word 0x00134303  # lbu x6, 1(x6)
     .word 0x00831313  # slli x6, x6, 8
     .word 0x0062e2b3  # or x5, x5, x6
-    .word 0x00258313  # addi x6, x11, 2
-    .word 0x00230333  # add x6, x6, x2
-    .word 0x00034303  # lbu x6, 0(x6)
+    .word 0x00258333  # add x6, x11, x2
+    .word 0x00234303  # lbu x6, 2(x6)
     .word 0x01031313  # slli x6, x6, 16
     .word 0x0062e6b3  # or x13, x5, x6
     .word 0x0096f2b3  # and x5, x13, x9
@@ -184,7 +182,7 @@ mlkem_sample_cbd3:
     .word 0x0c629023  # sh x6, 192(x5)
     .word 0x00150513  # addi x10, x10, 1
     .word 0x04053293  # sltiu x5, x10, 64
-    .word 0xee0296e3  # bne x5, x0, -276
+    .word 0xee029ae3  # bne x5, x0, -268
     .word 0xfff50513  # addi x10, x10, -1
     # the result
     .word 0x00000513  # addi x10, x0, 0

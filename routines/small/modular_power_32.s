@@ -1,4 +1,4 @@
-# modular_power_32: made by factc function; 154 words, 64 bytes of stack, profile 1
+# modular_power_32: made by factc 1.0.0 function; 154 words, 64 bytes of stack, profile 1
     .option push
     .option norvc
     .option norelax

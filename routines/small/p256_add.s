@@ -1,4 +1,4 @@
-# p256_add: made by factc function; 200 words, 192 bytes of stack, profile 1
+# p256_add: made by factc 1.0.0 function; 200 words, 192 bytes of stack, profile 1
     .option push
     .option norvc
     .option norelax

@@ -1,4 +1,4 @@
-# p256_from_bytes: made by factc function; 479 words, 928 bytes of stack, profile 1
+# p256_from_bytes: made by factc 1.0.0 function; 478 words, 928 bytes of stack, profile 1
     .option push
     .option norvc
     .option norelax
@@ -142,13 +142,12 @@ p256_from_bytes:
     .word 0x00463293  # sltiu x5, x12, 4
     .word 0xfa029ee3  # bne x5, x0, -68
     .word 0xfff60613  # addi x12, x12, -1
-    .word 0x00858293  # addi x5, x11, 8
     .word 0x00259313  # slli x6, x11, 2
     .word 0x00230333  # add x6, x6, x2
     .word 0x24032303  # lw x6, 576(x6)
-    .word 0x00229293  # slli x5, x5, 2
+    .word 0x00259293  # slli x5, x11, 2
     .word 0x002282b3  # add x5, x5, x2
-    .word 0x0462a023  # sw x6, 64(x5)
+    .word 0x0662a023  # sw x6, 96(x5)
     .word 0x0035b293  # sltiu x5, x11, 3
     .word 0xff958313  # addi x6, x11, -7
     .word 0x00133313  # sltiu x6, x6, 1
@@ -176,7 +175,7 @@ p256_from_bytes:
     .word 0x00628533  # add x10, x5, x6
     .word 0x00158593  # addi x11, x11, 1
     .word 0x0085b293  # sltiu x5, x11, 8
-    .word 0xf20294e3  # bne x5, x0, -216
+    .word 0xf20296e3  # bne x5, x0, -212
     .word 0xfff58593  # addi x11, x11, -1
     .word 0x26000313  # addi x6, x0, 608
     .word 0x00230333  # add x6, x6, x2

@@ -1,4 +1,4 @@
-# p256_invert: made by factc function; 553 words, 960 bytes of stack, profile 1
+# p256_invert: made by factc 1.0.0 function; 553 words, 960 bytes of stack, profile 1
     .option push
     .option norvc
     .option norelax

@@ -1,4 +1,4 @@
-# p256_multiply: made by factc function; 362 words, 400 bytes of stack, profile 1
+# p256_multiply: made by factc 1.0.0 function; 362 words, 400 bytes of stack, profile 1
     .option push
     .option norvc
     .option norelax

@@ -1,4 +1,4 @@
-# p256_point_add: made by factc function; 1059 words, 1456 bytes of stack, profile 1
+# p256_point_add: made by factc 1.0.0 function; 1058 words, 1456 bytes of stack, profile 1
     .option push
     .option norvc
     .option norelax
@@ -480,7 +480,7 @@ p256_point_add:
     .word 0x55c12283  # lw x5, 1372(x2)
     .word 0x005332b3  # sltu x5, x6, x5
     .word 0x00029463  # bne x5, x0, 8
-    .word 0x0580006f  # jal x0, 88
+    .word 0x0540006f  # jal x0, 84
     .word 0x3e612823  # sw x6, 1008(x2)
     .word 0x00130313  # addi x6, x6, 1
     .word 0x54612c23  # sw x6, 1368(x2)
@@ -493,15 +493,14 @@ p256_point_add:
     .word 0x002282b3  # add x5, x5, x2
     .word 0x1262a023  # sw x6, 288(x5)
     .word 0x3f012283  # lw x5, 1008(x2)
-    .word 0x01828293  # addi x5, x5, 24
     .word 0x3f012303  # lw x6, 1008(x2)
     .word 0x00231313  # slli x6, x6, 2
     .word 0x00230333  # add x6, x6, x2
     .word 0x06032303  # lw x6, 96(x6)
     .word 0x00229293  # slli x5, x5, 2
     .word 0x002282b3  # add x5, x5, x2
-    .word 0x1262a023  # sw x6, 288(x5)
-    .word 0xf9dff06f  # jal x0, -100
+    .word 0x1862a023  # sw x6, 384(x5)
+    .word 0xfa1ff06f  # jal x0, -96
     .word 0x54012c23  # sw x0, 1368(x2)
     .word 0x00800293  # addi x5, x0, 8
     .word 0x54512e23  # sw x5, 1372(x2)

@@ -1,4 +1,4 @@
-# p256_scalar_multiply: made by factc function; 3066 words, 3328 bytes of stack, profile 1
+# p256_scalar_multiply: made by factc 1.0.0 function; 3066 words, 3328 bytes of stack, profile 1
     .option push
     .option norvc
     .option norelax

@@ -1,4 +1,4 @@
-# p256_sign: made by factc function; 1258 words, 1424 bytes of stack, profile 1
+# p256_sign: made by factc 1.0.0 function; 1246 words, 1424 bytes of stack, profile 1
     .option push
     .option norvc
     .option norelax
@@ -316,7 +316,7 @@ p256_sign:
     .word 0x51812283  # lw x5, 1304(x2)
     .word 0x005332b3  # sltu x5, x6, x5
     .word 0x00029463  # bne x5, x0, 8
-    .word 0x07c0006f  # jal x0, 124
+    .word 0x0740006f  # jal x0, 116
     .word 0x28612023  # sw x6, 640(x2)
     .word 0x00130313  # addi x6, x6, 1
     .word 0x50612a23  # sw x6, 1300(x2)
@@ -327,12 +327,11 @@ p256_sign:
     .word 0x002282b3  # add x5, x5, x2
     .word 0x20628023  # sb x6, 512(x5)
     .word 0x28012283  # lw x5, 640(x2)
-    .word 0x02028293  # addi x5, x5, 32
     .word 0x28012303  # lw x6, 640(x2)
     .word 0x00230333  # add x6, x6, x2
     .word 0x00034303  # lbu x6, 0(x6)
     .word 0x002282b3  # add x5, x5, x2
-    .word 0x20628023  # sb x6, 512(x5)
+    .word 0x22628023  # sb x6, 544(x5)
     .word 0x28012283  # lw x5, 640(x2)
     .word 0x28012303  # lw x6, 640(x2)
     .word 0x00230333  # add x6, x6, x2
@@ -340,13 +339,12 @@ p256_sign:
     .word 0x002282b3  # add x5, x5, x2
     .word 0x24628023  # sb x6, 576(x5)
     .word 0x28012283  # lw x5, 640(x2)
-    .word 0x02028293  # addi x5, x5, 32
     .word 0x28012303  # lw x6, 640(x2)
     .word 0x00230333  # add x6, x6, x2
     .word 0x06034303  # lbu x6, 96(x6)
     .word 0x002282b3  # add x5, x5, x2
-    .word 0x24628023  # sb x6, 576(x5)
-    .word 0xf79ff06f  # jal x0, -136
+    .word 0x26628023  # sb x6, 608(x5)
+    .word 0xf81ff06f  # jal x0, -128
     .word 0x50012a23  # sw x0, 1300(x2)
     .word 0x00800293  # addi x5, x0, 8
     .word 0x50512c23  # sw x5, 1304(x2)
@@ -354,20 +352,19 @@ p256_sign:
     .word 0x51812283  # lw x5, 1304(x2)
     .word 0x005332b3  # sltu x5, x6, x5
     .word 0x00029463  # bne x5, x0, 8
-    .word 0x0380006f  # jal x0, 56
+    .word 0x0340006f  # jal x0, 52
     .word 0x28612223  # sw x6, 644(x2)
     .word 0x00130313  # addi x6, x6, 1
     .word 0x50612a23  # sw x6, 1300(x2)
     .word 0x28412283  # lw x5, 644(x2)
-    .word 0x02828293  # addi x5, x5, 40
     .word 0x28412303  # lw x6, 644(x2)
     .word 0x00231313  # slli x6, x6, 2
     .word 0x00230333  # add x6, x6, x2
     .word 0x1e032303  # lw x6, 480(x6)
     .word 0x00229293  # slli x5, x5, 2
     .word 0x002282b3  # add x5, x5, x2
-    .word 0x0c62a023  # sw x6, 192(x5)
-    .word 0xfbdff06f  # jal x0, -68
+    .word 0x1662a023  # sw x6, 352(x5)
+    .word 0xfc1ff06f  # jal x0, -64
     .word 0x00100293  # addi x5, x0, 1
     .word 0x28512423  # sw x5, 648(x2)
     .word 0x50012a23  # sw x0, 1300(x2)
@@ -377,7 +374,7 @@ p256_sign:
     .word 0x51812283  # lw x5, 1304(x2)
     .word 0x005332b3  # sltu x5, x6, x5
     .word 0x00029463  # bne x5, x0, 8
-    .word 0x3bc0006f  # jal x0, 956
+    .word 0x3a40006f  # jal x0, 932
     .word 0x28612623  # sw x6, 652(x2)
     .word 0x00130313  # addi x6, x6, 1
     .word 0x50612a23  # sw x6, 1300(x2)
@@ -394,7 +391,7 @@ p256_sign:
     .word 0x52012283  # lw x5, 1312(x2)
     .word 0x005332b3  # sltu x5, x6, x5
     .word 0x00029463  # bne x5, x0, 8
-    .word 0x0b00006f  # jal x0, 176
+    .word 0x0a40006f  # jal x0, 164
     .word 0x2a612023  # sw x6, 672(x2)
     .word 0x00130313  # addi x6, x6, 1
     .word 0x50612e23  # sw x6, 1308(x2)
@@ -405,19 +402,16 @@ p256_sign:
     .word 0x002482b3  # add x5, x9, x2
     .word 0x2002c283  # lbu x5, 512(x5)
     .word 0x01829293  # slli x5, x5, 24
-    .word 0x00148313  # addi x6, x9, 1
-    .word 0x00230333  # add x6, x6, x2
-    .word 0x20034303  # lbu x6, 512(x6)
+    .word 0x00248333  # add x6, x9, x2
+    .word 0x20134303  # lbu x6, 513(x6)
     .word 0x01031313  # slli x6, x6, 16
     .word 0x0062ea33  # or x20, x5, x6
-    .word 0x00248313  # addi x6, x9, 2
-    .word 0x00230333  # add x6, x6, x2
-    .word 0x20034303  # lbu x6, 512(x6)
+    .word 0x00248333  # add x6, x9, x2
+    .word 0x20234303  # lbu x6, 514(x6)
     .word 0x00831313  # slli x6, x6, 8
     .word 0x006a62b3  # or x5, x20, x6
-    .word 0x00348313  # addi x6, x9, 3
-    .word 0x00230333  # add x6, x6, x2
-    .word 0x20034303  # lbu x6, 512(x6)
+    .word 0x00248333  # add x6, x9, x2
+    .word 0x20334303  # lbu x6, 515(x6)
     .word 0x0062ea33  # or x20, x5, x6
     .word 0x2a012303  # lw x6, 672(x2)
     .word 0x00231313  # slli x6, x6, 2
@@ -437,7 +431,7 @@ p256_sign:
     .word 0x00229293  # slli x5, x5, 2
     .word 0x002282b3  # add x5, x5, x2
     .word 0x0d42a023  # sw x20, 192(x5)
-    .word 0xf45ff06f  # jal x0, -188
+    .word 0xf51ff06f  # jal x0, -176
     .word 0xfff90293  # addi x5, x18, -1
     .word 0x0012b293  # sltiu x5, x5, 1
     .word 0x00d03333  # sltu x6, x0, x13
@@ -456,7 +450,7 @@ p256_sign:
     .word 0x52012283  # lw x5, 1312(x2)
     .word 0x005332b3  # sltu x5, x6, x5
     .word 0x00029463  # bne x5, x0, 8
-    .word 0x0b00006f  # jal x0, 176
+    .word 0x0a40006f  # jal x0, 164
     .word 0x2c612223  # sw x6, 708(x2)
     .word 0x00130313  # addi x6, x6, 1
     .word 0x50612e23  # sw x6, 1308(x2)
@@ -467,19 +461,16 @@ p256_sign:
     .word 0x002482b3  # add x5, x9, x2
     .word 0x2402c283  # lbu x5, 576(x5)
     .word 0x01829293  # slli x5, x5, 24
-    .word 0x00148313  # addi x6, x9, 1
-    .word 0x00230333  # add x6, x6, x2
-    .word 0x24034303  # lbu x6, 576(x6)
+    .word 0x00248333  # add x6, x9, x2
+    .word 0x24134303  # lbu x6, 577(x6)
     .word 0x01031313  # slli x6, x6, 16
     .word 0x0062ea33  # or x20, x5, x6
-    .word 0x00248313  # addi x6, x9, 2
-    .word 0x00230333  # add x6, x6, x2
-    .word 0x24034303  # lbu x6, 576(x6)
+    .word 0x00248333  # add x6, x9, x2
+    .word 0x24234303  # lbu x6, 578(x6)
     .word 0x00831313  # slli x6, x6, 8
     .word 0x006a62b3  # or x5, x20, x6
-    .word 0x00348313  # addi x6, x9, 3
-    .word 0x00230333  # add x6, x6, x2
-    .word 0x24034303  # lbu x6, 576(x6)
+    .word 0x00248333  # add x6, x9, x2
+    .word 0x24334303  # lbu x6, 579(x6)
     .word 0x0062ea33  # or x20, x5, x6
     .word 0x2c412303  # lw x6, 708(x2)
     .word 0x00231313  # slli x6, x6, 2
@@ -499,7 +490,7 @@ p256_sign:
     .word 0x00229293  # slli x5, x5, 2
     .word 0x002282b3  # add x5, x5, x2
     .word 0x0d42a023  # sw x20, 192(x5)
-    .word 0xf45ff06f  # jal x0, -188
+    .word 0xf51ff06f  # jal x0, -176
     .word 0x28812283  # lw x5, 648(x2)
     .word 0x01a2f2b3  # and x5, x5, x26
     .word 0x28512423  # sw x5, 648(x2)
@@ -615,7 +606,7 @@ p256_sign:
     .word 0x002282b3  # add x5, x5, x2
     .word 0x0c62a023  # sw x6, 192(x5)
     .word 0xf9dff06f  # jal x0, -100
-    .word 0xc39ff06f  # jal x0, -968
+    .word 0xc51ff06f  # jal x0, -944
     .word 0x50012a23  # sw x0, 1300(x2)
     .word 0x10300293  # addi x5, x0, 259
     .word 0x50512c23  # sw x5, 1304(x2)
@@ -623,7 +614,7 @@ p256_sign:
     .word 0x51812283  # lw x5, 1304(x2)
     .word 0x005332b3  # sltu x5, x6, x5
     .word 0x00029463  # bne x5, x0, 8
-    .word 0x7840006f  # jal x0, 1924
+    .word 0x7780006f  # jal x0, 1912
     .word 0x32612e23  # sw x6, 828(x2)
     .word 0x00130313  # addi x6, x6, 1
     .word 0x50612a23  # sw x6, 1300(x2)
@@ -652,7 +643,7 @@ p256_sign:
     .word 0x52012283  # lw x5, 1312(x2)
     .word 0x005332b3  # sltu x5, x6, x5
     .word 0x00029463  # bne x5, x0, 8
-    .word 0x4b00006f  # jal x0, 1200
+    .word 0x4a40006f  # jal x0, 1188
     .word 0x34612423  # sw x6, 840(x2)
     .word 0x00130313  # addi x6, x6, 1
     .word 0x50612e23  # sw x6, 1308(x2)
@@ -717,7 +708,7 @@ p256_sign:
     .word 0x0062f2b3  # and x5, x5, x6
     .word 0x34512c23  # sw x5, 856(x2)
     .word 0x35812283  # lw x5, 856(x2)
-    .word 0x3a028463  # beq x5, x0, 936
+    .word 0x38028e63  # beq x5, x0, 924
     .word 0x0384f493  # andi x9, x9, 56
     .word 0x03857513  # andi x10, x10, 56
     .word 0x0385f593  # andi x11, x11, 56
@@ -856,22 +847,20 @@ p256_sign:
     .word 0x008bb293  # sltiu x5, x23, 8
     .word 0xfa0296e3  # bne x5, x0, -84
     .word 0xfffb8b93  # addi x23, x23, -1
-    .word 0x008b0293  # addi x5, x22, 8
-    .word 0x00229293  # slli x5, x5, 2
+    .word 0x002b1293  # slli x5, x22, 2
     .word 0x002282b3  # add x5, x5, x2
-    .word 0x3bc2a283  # lw x5, 956(x5)
+    .word 0x3dc2a283  # lw x5, 988(x5)
     .word 0x01228a33  # add x20, x5, x18
     .word 0x015a06b3  # add x13, x20, x21
     .word 0x012a32b3  # sltu x5, x20, x18
     .word 0x0156b333  # sltu x6, x13, x21
     .word 0x00628ab3  # add x21, x5, x6
-    .word 0x008b0293  # addi x5, x22, 8
-    .word 0x00229293  # slli x5, x5, 2
+    .word 0x002b1293  # slli x5, x22, 2
     .word 0x002282b3  # add x5, x5, x2
-    .word 0x3ad2ae23  # sw x13, 956(x5)
+    .word 0x3cd2ae23  # sw x13, 988(x5)
     .word 0x001b0b13  # addi x22, x22, 1
     .word 0x008b3293  # sltiu x5, x22, 8
-    .word 0xf40296e3  # bne x5, x0, -180
+    .word 0xf4029ae3  # bne x5, x0, -172
     .word 0xfffb0b13  # addi x22, x22, -1
     .word 0x43400313  # addi x6, x0, 1076
     .word 0x00230333  # add x6, x6, x2
@@ -884,16 +873,15 @@ p256_sign:
     .word 0x00430313  # addi x6, x6, 4
     .word 0xfedff06f  # jal x0, -20
     .word 0x00000c13  # addi x24, x0, 0
-    .word 0x008c0313  # addi x6, x24, 8
-    .word 0x00231313  # slli x6, x6, 2
+    .word 0x002c1313  # slli x6, x24, 2
     .word 0x00230333  # add x6, x6, x2
-    .word 0x3bc32303  # lw x6, 956(x6)
+    .word 0x3dc32303  # lw x6, 988(x6)
     .word 0x002c1293  # slli x5, x24, 2
     .word 0x002282b3  # add x5, x5, x2
     .word 0x4262aa23  # sw x6, 1076(x5)
     .word 0x001c0c13  # addi x24, x24, 1
     .word 0x008c3293  # sltiu x5, x24, 8
-    .word 0xfc029ee3  # bne x5, x0, -36
+    .word 0xfe0290e3  # bne x5, x0, -32
     .word 0xfffc0c13  # addi x24, x24, -1
     .word 0x45c00313  # addi x6, x0, 1116
     .word 0x00230333  # add x6, x6, x2
@@ -951,7 +939,7 @@ p256_sign:
     .word 0x008db293  # sltiu x5, x27, 8
     .word 0xfc0290e3  # bne x5, x0, -64
     .word 0xfffd8d93  # addi x27, x27, -1
-    .word 0xb45ff06f  # jal x0, -1212
+    .word 0xb51ff06f  # jal x0, -1200
     .word 0x33c12283  # lw x5, 828(x2)
     .word 0x04029c63  # bne x5, x0, 88
     .word 0x50012e23  # sw x0, 1308(x2)
@@ -1103,7 +1091,7 @@ p256_sign:
     .word 0x002282b3  # add x5, x5, x2
     .word 0x0c62a023  # sw x6, 192(x5)
     .word 0xf9dff06f  # jal x0, -100
-    .word 0x871ff06f  # jal x0, -1936
+    .word 0x87dff06f  # jal x0, -1924
     .word 0x00000a13  # addi x20, x0, 0
     .word 0x00000913  # addi x18, x0, 0
     .word 0x50012a23  # sw x0, 1300(x2)

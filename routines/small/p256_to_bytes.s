@@ -1,4 +1,4 @@
-# p256_to_bytes: made by factc function; 423 words, 880 bytes of stack, profile 1
+# p256_to_bytes: made by factc 1.0.0 function; 423 words, 880 bytes of stack, profile 1
     .option push
     .option norvc
     .option norelax

@@ -1,4 +1,4 @@
-# p256_verify_scalars: made by factc function; 973 words, 1008 bytes of stack, profile 1
+# p256_verify_scalars: made by factc 1.0.0 function; 962 words, 1008 bytes of stack, profile 1
     .option push
     .option norvc
     .option norelax
@@ -220,7 +220,7 @@ p256_verify_scalars:
     .word 0x39012283  # lw x5, 912(x2)
     .word 0x005332b3  # sltu x5, x6, x5
     .word 0x00029463  # bne x5, x0, 8
-    .word 0x0480006f  # jal x0, 72
+    .word 0x0440006f  # jal x0, 68
     .word 0x22612023  # sw x6, 544(x2)
     .word 0x00130313  # addi x6, x6, 1
     .word 0x38612623  # sw x6, 908(x2)
@@ -231,13 +231,12 @@ p256_verify_scalars:
     .word 0x002282b3  # add x5, x5, x2
     .word 0x1e628023  # sb x6, 480(x5)
     .word 0x22012283  # lw x5, 544(x2)
-    .word 0x02028293  # addi x5, x5, 32
     .word 0x22012303  # lw x6, 544(x2)
     .word 0x00230333  # add x6, x6, x2
     .word 0x00034303  # lbu x6, 0(x6)
     .word 0x002282b3  # add x5, x5, x2
-    .word 0x1e628023  # sb x6, 480(x5)
-    .word 0xfadff06f  # jal x0, -84
+    .word 0x20628023  # sb x6, 512(x5)
+    .word 0xfb1ff06f  # jal x0, -80
     .word 0x38012623  # sw x0, 908(x2)
     .word 0x00800293  # addi x5, x0, 8
     .word 0x38512823  # sw x5, 912(x2)
@@ -245,20 +244,19 @@ p256_verify_scalars:
     .word 0x39012283  # lw x5, 912(x2)
     .word 0x005332b3  # sltu x5, x6, x5
     .word 0x00029463  # bne x5, x0, 8
-    .word 0x0380006f  # jal x0, 56
+    .word 0x0340006f  # jal x0, 52
     .word 0x22612223  # sw x6, 548(x2)
     .word 0x00130313  # addi x6, x6, 1
     .word 0x38612623  # sw x6, 908(x2)
     .word 0x22412283  # lw x5, 548(x2)
-    .word 0x02828293  # addi x5, x5, 40
     .word 0x22412303  # lw x6, 548(x2)
     .word 0x00231313  # slli x6, x6, 2
     .word 0x00230333  # add x6, x6, x2
     .word 0x1c032303  # lw x6, 448(x6)
     .word 0x00229293  # slli x5, x5, 2
     .word 0x002282b3  # add x5, x5, x2
-    .word 0x0a62a023  # sw x6, 160(x5)
-    .word 0xfbdff06f  # jal x0, -68
+    .word 0x1462a023  # sw x6, 320(x5)
+    .word 0xfc1ff06f  # jal x0, -64
     .word 0x00000913  # addi x18, x0, 0
     .word 0x00000693  # addi x13, x0, 0
     .word 0x38012623  # sw x0, 908(x2)
@@ -268,7 +266,7 @@ p256_verify_scalars:
     .word 0x39012283  # lw x5, 912(x2)
     .word 0x005332b3  # sltu x5, x6, x5
     .word 0x00029463  # bne x5, x0, 8
-    .word 0x0ac0006f  # jal x0, 172
+    .word 0x0a00006f  # jal x0, 160
     .word 0x22612423  # sw x6, 552(x2)
     .word 0x00130313  # addi x6, x6, 1
     .word 0x38612623  # sw x6, 908(x2)
@@ -279,19 +277,16 @@ p256_verify_scalars:
     .word 0x002482b3  # add x5, x9, x2
     .word 0x0002c283  # lbu x5, 0(x5)
     .word 0x01829293  # slli x5, x5, 24
-    .word 0x00148313  # addi x6, x9, 1
-    .word 0x00230333  # add x6, x6, x2
-    .word 0x00034303  # lbu x6, 0(x6)
+    .word 0x00248333  # add x6, x9, x2
+    .word 0x00134303  # lbu x6, 1(x6)
     .word 0x01031313  # slli x6, x6, 16
     .word 0x0062ea33  # or x20, x5, x6
-    .word 0x00248313  # addi x6, x9, 2
-    .word 0x00230333  # add x6, x6, x2
-    .word 0x00034303  # lbu x6, 0(x6)
+    .word 0x00248333  # add x6, x9, x2
+    .word 0x00234303  # lbu x6, 2(x6)
     .word 0x00831313  # slli x6, x6, 8
     .word 0x006a62b3  # or x5, x20, x6
-    .word 0x00348313  # addi x6, x9, 3
-    .word 0x00230333  # add x6, x6, x2
-    .word 0x00034303  # lbu x6, 0(x6)
+    .word 0x00248333  # add x6, x9, x2
+    .word 0x00334303  # lbu x6, 3(x6)
     .word 0x0062ea33  # or x20, x5, x6
     .word 0x22812303  # lw x6, 552(x2)
     .word 0x00231313  # slli x6, x6, 2
@@ -310,7 +305,7 @@ p256_verify_scalars:
     .word 0x00229293  # slli x5, x5, 2
     .word 0x002282b3  # add x5, x5, x2
     .word 0x0b42a023  # sw x20, 160(x5)
-    .word 0xf49ff06f  # jal x0, -184
+    .word 0xf55ff06f  # jal x0, -172
     .word 0xfff90293  # addi x5, x18, -1
     .word 0x0012b293  # sltiu x5, x5, 1
     .word 0x00d03333  # sltu x6, x0, x13
@@ -323,7 +318,7 @@ p256_verify_scalars:
     .word 0x39012283  # lw x5, 912(x2)
     .word 0x005332b3  # sltu x5, x6, x5
     .word 0x00029463  # bne x5, x0, 8
-    .word 0x2e40006f  # jal x0, 740
+    .word 0x2d80006f  # jal x0, 728
     .word 0x22612823  # sw x6, 560(x2)
     .word 0x00130313  # addi x6, x6, 1
     .word 0x38612623  # sw x6, 908(x2)
@@ -341,7 +336,7 @@ p256_verify_scalars:
     .word 0x39812283  # lw x5, 920(x2)
     .word 0x005332b3  # sltu x5, x6, x5
     .word 0x00029463  # bne x5, x0, 8
-    .word 0x0b00006f  # jal x0, 176
+    .word 0x0a40006f  # jal x0, 164
     .word 0x22612a23  # sw x6, 564(x2)
     .word 0x00130313  # addi x6, x6, 1
     .word 0x38612a23  # sw x6, 916(x2)
@@ -352,19 +347,16 @@ p256_verify_scalars:
     .word 0x002482b3  # add x5, x9, x2
     .word 0x1e02c283  # lbu x5, 480(x5)
     .word 0x01829293  # slli x5, x5, 24
-    .word 0x00148313  # addi x6, x9, 1
-    .word 0x00230333  # add x6, x6, x2
-    .word 0x1e034303  # lbu x6, 480(x6)
+    .word 0x00248333  # add x6, x9, x2
+    .word 0x1e134303  # lbu x6, 481(x6)
     .word 0x01031313  # slli x6, x6, 16
     .word 0x0062ea33  # or x20, x5, x6
-    .word 0x00248313  # addi x6, x9, 2
-    .word 0x00230333  # add x6, x6, x2
-    .word 0x1e034303  # lbu x6, 480(x6)
+    .word 0x00248333  # add x6, x9, x2
+    .word 0x1e234303  # lbu x6, 482(x6)
     .word 0x00831313  # slli x6, x6, 8
     .word 0x006a62b3  # or x5, x20, x6
-    .word 0x00348313  # addi x6, x9, 3
-    .word 0x00230333  # add x6, x6, x2
-    .word 0x1e034303  # lbu x6, 480(x6)
+    .word 0x00248333  # add x6, x9, x2
+    .word 0x1e334303  # lbu x6, 483(x6)
     .word 0x0062ea33  # or x20, x5, x6
     .word 0x23412303  # lw x6, 564(x2)
     .word 0x00231313  # slli x6, x6, 2
@@ -384,7 +376,7 @@ p256_verify_scalars:
     .word 0x00229293  # slli x5, x5, 2
     .word 0x002282b3  # add x5, x5, x2
     .word 0x0b42a023  # sw x20, 160(x5)
-    .word 0xf45ff06f  # jal x0, -188
+    .word 0xf51ff06f  # jal x0, -176
     .word 0xfff90293  # addi x5, x18, -1
     .word 0x0012b293  # sltiu x5, x5, 1
     .word 0x00d03333  # sltu x6, x0, x13
@@ -507,7 +499,7 @@ p256_verify_scalars:
     .word 0x002282b3  # add x5, x5, x2
     .word 0x0a62a023  # sw x6, 160(x5)
     .word 0xf9dff06f  # jal x0, -100
-    .word 0xd11ff06f  # jal x0, -752
+    .word 0xd1dff06f  # jal x0, -740
     .word 0x38012623  # sw x0, 908(x2)
     .word 0x10100293  # addi x5, x0, 257
     .word 0x38512823  # sw x5, 912(x2)
@@ -515,7 +507,7 @@ p256_verify_scalars:
     .word 0x39012283  # lw x5, 912(x2)
     .word 0x005332b3  # sltu x5, x6, x5
     .word 0x00029463  # bne x5, x0, 8
-    .word 0x5300006f  # jal x0, 1328
+    .word 0x5240006f  # jal x0, 1316
     .word 0x28612223  # sw x6, 644(x2)
     .word 0x00130313  # addi x6, x6, 1
     .word 0x38612623  # sw x6, 908(x2)
@@ -544,7 +536,7 @@ p256_verify_scalars:
     .word 0x39812283  # lw x5, 920(x2)
     .word 0x005332b3  # sltu x5, x6, x5
     .word 0x00029463  # bne x5, x0, 8
-    .word 0x45c0006f  # jal x0, 1116
+    .word 0x4500006f  # jal x0, 1104
     .word 0x28612623  # sw x6, 652(x2)
     .word 0x00130313  # addi x6, x6, 1
     .word 0x38612a23  # sw x6, 916(x2)
@@ -588,7 +580,7 @@ p256_verify_scalars:
     .word 0x0063c4b3  # xor x9, x7, x6
     .word 0x00048513  # addi x10, x9, 0
     .word 0x29012283  # lw x5, 656(x2)
-    .word 0x3a028463  # beq x5, x0, 936
+    .word 0x38028e63  # beq x5, x0, 924
     .word 0x0384f493  # andi x9, x9, 56
     .word 0x03857513  # andi x10, x10, 56
     .word 0x0385f593  # andi x11, x11, 56
@@ -727,22 +719,20 @@ p256_verify_scalars:
     .word 0x008bb293  # sltiu x5, x23, 8
     .word 0xfa0296e3  # bne x5, x0, -84
     .word 0xfffb8b93  # addi x23, x23, -1
-    .word 0x008b0293  # addi x5, x22, 8
-    .word 0x00229293  # slli x5, x5, 2
+    .word 0x002b1293  # slli x5, x22, 2
     .word 0x002282b3  # add x5, x5, x2
-    .word 0x2f42a283  # lw x5, 756(x5)
+    .word 0x3142a283  # lw x5, 788(x5)
     .word 0x01228a33  # add x20, x5, x18
     .word 0x015a06b3  # add x13, x20, x21
     .word 0x012a32b3  # sltu x5, x20, x18
     .word 0x0156b333  # sltu x6, x13, x21
     .word 0x00628ab3  # add x21, x5, x6
-    .word 0x008b0293  # addi x5, x22, 8
-    .word 0x00229293  # slli x5, x5, 2
+    .word 0x002b1293  # slli x5, x22, 2
     .word 0x002282b3  # add x5, x5, x2
-    .word 0x2ed2aa23  # sw x13, 756(x5)
+    .word 0x30d2aa23  # sw x13, 788(x5)
     .word 0x001b0b13  # addi x22, x22, 1
     .word 0x008b3293  # sltiu x5, x22, 8
-    .word 0xf40296e3  # bne x5, x0, -180
+    .word 0xf4029ae3  # bne x5, x0, -172
     .word 0xfffb0b13  # addi x22, x22, -1
     .word 0x33400313  # addi x6, x0, 820
     .word 0x00230333  # add x6, x6, x2
@@ -755,16 +745,15 @@ p256_verify_scalars:
     .word 0x00430313  # addi x6, x6, 4
     .word 0xfedff06f  # jal x0, -20
     .word 0x00000c13  # addi x24, x0, 0
-    .word 0x008c0313  # addi x6, x24, 8
-    .word 0x00231313  # slli x6, x6, 2
+    .word 0x002c1313  # slli x6, x24, 2
     .word 0x00230333  # add x6, x6, x2
-    .word 0x2f432303  # lw x6, 756(x6)
+    .word 0x31432303  # lw x6, 788(x6)
     .word 0x002c1293  # slli x5, x24, 2
     .word 0x002282b3  # add x5, x5, x2
     .word 0x3262aa23  # sw x6, 820(x5)
     .word 0x001c0c13  # addi x24, x24, 1
     .word 0x008c3293  # sltiu x5, x24, 8
-    .word 0xfc029ee3  # bne x5, x0, -36
+    .word 0xfe0290e3  # bne x5, x0, -32
     .word 0xfffc0c13  # addi x24, x24, -1
     .word 0x35400313  # addi x6, x0, 852
     .word 0x00230333  # add x6, x6, x2
@@ -822,7 +811,7 @@ p256_verify_scalars:
     .word 0x008db293  # sltiu x5, x27, 8
     .word 0xfc0290e3  # bne x5, x0, -64
     .word 0xfffd8d93  # addi x27, x27, -1
-    .word 0xb99ff06f  # jal x0, -1128
+    .word 0xba5ff06f  # jal x0, -1116
     .word 0x28412283  # lw x5, 644(x2)
     .word 0x04029c63  # bne x5, x0, 88
     .word 0x38012a23  # sw x0, 916(x2)
@@ -846,7 +835,7 @@ p256_verify_scalars:
     .word 0x002282b3  # add x5, x5, x2
     .word 0x0a62a023  # sw x6, 160(x5)
     .word 0xfbdff06f  # jal x0, -68
-    .word 0xac5ff06f  # jal x0, -1340
+    .word 0xad1ff06f  # jal x0, -1328
     .word 0x38012623  # sw x0, 908(x2)
     .word 0x00800293  # addi x5, x0, 8
     .word 0x38512823  # sw x5, 912(x2)

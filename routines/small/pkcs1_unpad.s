@@ -1,4 +1,4 @@
-# pkcs1_unpad: made by factc function; 392 words, 304 bytes of stack, profile 1
+# pkcs1_unpad: made by factc 1.0.0 function; 385 words, 304 bytes of stack, profile 1
     .option push
     .option norvc
     .option norelax
@@ -193,19 +193,16 @@ pkcs1_unpad:
     .word 0x00259693  # slli x13, x11, 2
     .word 0x002682b3  # add x5, x13, x2
     .word 0x0002c283  # lbu x5, 0(x5)
-    .word 0x00168313  # addi x6, x13, 1
-    .word 0x00230333  # add x6, x6, x2
-    .word 0x00034303  # lbu x6, 0(x6)
+    .word 0x00268333  # add x6, x13, x2
+    .word 0x00134303  # lbu x6, 1(x6)
     .word 0x00831313  # slli x6, x6, 8
     .word 0x0062e8b3  # or x17, x5, x6
-    .word 0x00268313  # addi x6, x13, 2
-    .word 0x00230333  # add x6, x6, x2
-    .word 0x00034303  # lbu x6, 0(x6)
+    .word 0x00268333  # add x6, x13, x2
+    .word 0x00234303  # lbu x6, 2(x6)
     .word 0x01031313  # slli x6, x6, 16
     .word 0x0068e2b3  # or x5, x17, x6
-    .word 0x00368313  # addi x6, x13, 3
-    .word 0x00230333  # add x6, x6, x2
-    .word 0x00034303  # lbu x6, 0(x6)
+    .word 0x00268333  # add x6, x13, x2
+    .word 0x00334303  # lbu x6, 3(x6)
     .word 0x01831313  # slli x6, x6, 24
     .word 0x0062e8b3  # or x17, x5, x6
     .word 0x0128f333  # and x6, x17, x18
@@ -214,7 +211,7 @@ pkcs1_unpad:
     .word 0x0662ac23  # sw x6, 120(x5)
     .word 0x00158593  # addi x11, x11, 1
     .word 0x0105b293  # sltiu x5, x11, 16
-    .word 0xfa0290e3  # bne x5, x0, -96
+    .word 0xfa0296e3  # bne x5, x0, -84
     .word 0xfff58593  # addi x11, x11, -1
     .word 0x00000613  # addi x12, x0, 0
     .word 0x00800293  # addi x5, x0, 8
@@ -229,10 +226,9 @@ pkcs1_unpad:
     .word 0x002888b3  # add x17, x17, x2
     .word 0x0788a883  # lw x17, 120(x17)
     .word 0x00d8d2b3  # srl x5, x17, x13
-    .word 0x00180313  # addi x6, x16, 1
-    .word 0x00231313  # slli x6, x6, 2
+    .word 0x00281313  # slli x6, x16, 2
     .word 0x00230333  # add x6, x6, x2
-    .word 0x07832303  # lw x6, 120(x6)
+    .word 0x07c32303  # lw x6, 124(x6)
     .word 0x00e31333  # sll x6, x6, x14
     .word 0x0062c2b3  # xor x5, x5, x6
     .word 0x0112c2b3  # xor x5, x5, x17
@@ -243,11 +239,11 @@ pkcs1_unpad:
     .word 0x0662ac23  # sw x6, 120(x5)
     .word 0x00180813  # addi x16, x16, 1
     .word 0x01083293  # sltiu x5, x16, 16
-    .word 0xfa029ce3  # bne x5, x0, -72
+    .word 0xfa029ee3  # bne x5, x0, -68
     .word 0xfff80813  # addi x16, x16, -1
     .word 0x00160613  # addi x12, x12, 1
     .word 0x00263293  # sltiu x5, x12, 2
-    .word 0xf80294e3  # bne x5, x0, -120
+    .word 0xf80296e3  # bne x5, x0, -116
     .word 0xfff60613  # addi x12, x12, -1
     .word 0x00000993  # addi x19, x0, 0
     .word 0x00100293  # addi x5, x0, 1
@@ -286,21 +282,18 @@ pkcs1_unpad:
     .word 0x0788a883  # lw x17, 120(x17)
     .word 0x002682b3  # add x5, x13, x2
     .word 0x05128023  # sb x17, 64(x5)
-    .word 0x00168293  # addi x5, x13, 1
     .word 0x0088d313  # srli x6, x17, 8
-    .word 0x002282b3  # add x5, x5, x2
-    .word 0x04628023  # sb x6, 64(x5)
-    .word 0x00268293  # addi x5, x13, 2
+    .word 0x002682b3  # add x5, x13, x2
+    .word 0x046280a3  # sb x6, 65(x5)
     .word 0x0108d313  # srli x6, x17, 16
-    .word 0x002282b3  # add x5, x5, x2
-    .word 0x04628023  # sb x6, 64(x5)
-    .word 0x00368293  # addi x5, x13, 3
+    .word 0x002682b3  # add x5, x13, x2
+    .word 0x04628123  # sb x6, 66(x5)
     .word 0x0188d313  # srli x6, x17, 24
-    .word 0x002282b3  # add x5, x5, x2
-    .word 0x04628023  # sb x6, 64(x5)
+    .word 0x002682b3  # add x5, x13, x2
+    .word 0x046281a3  # sb x6, 67(x5)
     .word 0x001a8a93  # addi x21, x21, 1
     .word 0x00dab293  # sltiu x5, x21, 13
-    .word 0xfa0298e3  # bne x5, x0, -80
+    .word 0xfa029ee3  # bne x5, x0, -68
     .word 0xfffa8a93  # addi x21, x21, -1
     .word 0x0ac12283  # lw x5, 172(x2)
     .word 0x06510a23  # sb x5, 116(x2)

@@ -1,4 +1,4 @@
-# pkcs7_pad: made by factc function; 106 words, 48 bytes of stack, profile 1
+# pkcs7_pad: made by factc 1.0.0 function; 106 words, 48 bytes of stack, profile 1
     .option push
     .option norvc
     .option norelax

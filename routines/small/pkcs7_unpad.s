@@ -1,4 +1,4 @@
-# pkcs7_unpad: made by factc function; 94 words, 48 bytes of stack, profile 1
+# pkcs7_unpad: made by factc 1.0.0 function; 94 words, 48 bytes of stack, profile 1
     .option push
     .option norvc
     .option norelax

@@ -1,4 +1,4 @@
-# poly1305: made by factc function; 752 words, 304 bytes of stack, profile 1
+# poly1305: made by factc 1.0.0 function; 746 words, 304 bytes of stack, profile 1
     .option push
     .option norvc
     .option norelax
@@ -168,25 +168,22 @@ poly1305:
     .word 0x00000513  # addi x10, x0, 0
     .word 0x00251293  # slli x5, x10, 2
     .word 0x00428293  # addi x5, x5, 4
-    .word 0x0854e263  # bltu x9, x5, 132
+    .word 0x0654ec63  # bltu x9, x5, 120
     .word 0x00251293  # slli x5, x10, 2
     .word 0x002282b3  # add x5, x5, x2
     .word 0x0202c283  # lbu x5, 32(x5)
     .word 0x0a512c23  # sw x5, 184(x2)
     .word 0x00251293  # slli x5, x10, 2
-    .word 0x00128293  # addi x5, x5, 1
     .word 0x002282b3  # add x5, x5, x2
-    .word 0x0202c283  # lbu x5, 32(x5)
+    .word 0x0212c283  # lbu x5, 33(x5)
     .word 0x0a512e23  # sw x5, 188(x2)
     .word 0x00251293  # slli x5, x10, 2
-    .word 0x00228293  # addi x5, x5, 2
     .word 0x002282b3  # add x5, x5, x2
-    .word 0x0202c283  # lbu x5, 32(x5)
+    .word 0x0222c283  # lbu x5, 34(x5)
     .word 0x0c512023  # sw x5, 192(x2)
     .word 0x00251293  # slli x5, x10, 2
-    .word 0x00328293  # addi x5, x5, 3
     .word 0x002282b3  # add x5, x5, x2
-    .word 0x0202c283  # lbu x5, 32(x5)
+    .word 0x0232c283  # lbu x5, 35(x5)
     .word 0x0c512223  # sw x5, 196(x2)
     .word 0x0b812303  # lw x6, 184(x2)
     .word 0x0bc12383  # lw x7, 188(x2)
@@ -203,7 +200,7 @@ poly1305:
     .word 0x0662aa23  # sw x6, 116(x5)
     .word 0x00150513  # addi x10, x10, 1
     .word 0x01053293  # sltiu x5, x10, 16
-    .word 0xf60296e3  # bne x5, x0, -148
+    .word 0xf6029ce3  # bne x5, x0, -136
     .word 0xfff50513  # addi x10, x10, -1
     .word 0x00100d13  # addi x26, x0, 1
     .word 0x0e012423  # sw x0, 232(x2)
@@ -337,7 +334,7 @@ poly1305:
     .word 0x00000c93  # addi x25, x0, 0
     .word 0x00000593  # addi x11, x0, 0
     .word 0x00459293  # slli x5, x11, 4
-    .word 0x3292fa63  # bgeu x5, x9, 820
+    .word 0x3292f463  # bgeu x5, x9, 808
     .word 0x00459293  # slli x5, x11, 4
     .word 0x01028293  # addi x5, x5, 16
     .word 0x0054b2b3  # sltu x5, x9, x5
@@ -354,10 +351,9 @@ poly1305:
     .word 0x000d0893  # addi x17, x26, 0
     .word 0x000d8d13  # addi x26, x27, 0
     .word 0x00259293  # slli x5, x11, 2
-    .word 0x00128293  # addi x5, x5, 1
     .word 0x00229d93  # slli x27, x5, 2
     .word 0x002d8db3  # add x27, x27, x2
-    .word 0x074dad83  # lw x27, 116(x27)
+    .word 0x078dad83  # lw x27, 120(x27)
     .word 0x01bd0d33  # add x26, x26, x27
     .word 0x01bd3db3  # sltu x27, x26, x27
     .word 0x012d0d33  # add x26, x26, x18
@@ -366,10 +362,9 @@ poly1305:
     .word 0x000d0913  # addi x18, x26, 0
     .word 0x000d8d13  # addi x26, x27, 0
     .word 0x00259293  # slli x5, x11, 2
-    .word 0x00228293  # addi x5, x5, 2
     .word 0x00229d93  # slli x27, x5, 2
     .word 0x002d8db3  # add x27, x27, x2
-    .word 0x074dad83  # lw x27, 116(x27)
+    .word 0x07cdad83  # lw x27, 124(x27)
     .word 0x01bd0d33  # add x26, x26, x27
     .word 0x01bd3db3  # sltu x27, x26, x27
     .word 0x013d0d33  # add x26, x26, x19
@@ -378,10 +373,9 @@ poly1305:
     .word 0x000d0993  # addi x19, x26, 0
     .word 0x000d8d13  # addi x26, x27, 0
     .word 0x00259293  # slli x5, x11, 2
-    .word 0x00328293  # addi x5, x5, 3
     .word 0x00229d93  # slli x27, x5, 2
     .word 0x002d8db3  # add x27, x27, x2
-    .word 0x074dad83  # lw x27, 116(x27)
+    .word 0x080dad83  # lw x27, 128(x27)
     .word 0x01bd0d33  # add x26, x26, x27
     .word 0x01bd3db3  # sltu x27, x26, x27
     .word 0x014d0d33  # add x26, x26, x20
@@ -544,7 +538,7 @@ poly1305:
     .word 0x01a28cb3  # add x25, x5, x26
     .word 0x00158593  # addi x11, x11, 1
     .word 0x0045b293  # sltiu x5, x11, 4
-    .word 0xcc0290e3  # bne x5, x0, -832
+    .word 0xcc0296e3  # bne x5, x0, -820
     .word 0xfff58593  # addi x11, x11, -1
     .word 0x00588d13  # addi x26, x17, 5
     .word 0x011d3db3  # sltu x27, x26, x17

@@ -1,4 +1,4 @@
-# poly1305_block: made by factc function; 623 words, 224 bytes of stack, profile 1
+# poly1305_block: made by factc 1.0.0 function; 623 words, 224 bytes of stack, profile 1
     .option push
     .option norvc
     .option norelax

@@ -1,4 +1,4 @@
-# poly1305_finish: made by factc function; 339 words, 160 bytes of stack, profile 1
+# poly1305_finish: made by factc 1.0.0 function; 339 words, 160 bytes of stack, profile 1
     .option push
     .option norvc
     .option norelax

@@ -1,4 +1,4 @@
-# salsa20_block: made by factc function; 622 words, 240 bytes of stack, profile 1
+# salsa20_block: made by factc 1.0.0 function; 622 words, 240 bytes of stack, profile 1
     .option push
     .option norvc
     .option norelax

@@ -1,4 +1,4 @@
-# salsa20_core: made by factc function; 636 words, 208 bytes of stack, profile 1
+# salsa20_core: made by factc 1.0.0 function; 636 words, 208 bytes of stack, profile 1
     .option push
     .option norvc
     .option norelax

@@ -1,4 +1,4 @@
-# select_32: made by factc function; 174 words, 144 bytes of stack, profile 1
+# select_32: made by factc 1.0.0 function; 174 words, 144 bytes of stack, profile 1
     .option push
     .option norvc
     .option norelax

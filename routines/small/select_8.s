@@ -1,4 +1,4 @@
-# select_8: made by factc function; 108 words, 64 bytes of stack, profile 1
+# select_8: made by factc 1.0.0 function; 108 words, 64 bytes of stack, profile 1
     .option push
     .option norvc
     .option norelax

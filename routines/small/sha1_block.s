@@ -1,4 +1,4 @@
-# sha1_block: made by factc function; 646 words, 448 bytes of stack, profile 1
+# sha1_block: made by factc 1.0.0 function; 623 words, 448 bytes of stack, profile 1
     .option push
     .option norvc
     .option norelax
@@ -178,18 +178,15 @@ sha1_block:
     .word 0x002982b3  # add x5, x19, x2
     .word 0x0142c283  # lbu x5, 20(x5)
     .word 0x01829293  # slli x5, x5, 24
-    .word 0x00198313  # addi x6, x19, 1
-    .word 0x00230333  # add x6, x6, x2
-    .word 0x01434303  # lbu x6, 20(x6)
+    .word 0x00298333  # add x6, x19, x2
+    .word 0x01534303  # lbu x6, 21(x6)
     .word 0x01031313  # slli x6, x6, 16
     .word 0x0062e633  # or x12, x5, x6
-    .word 0x00298293  # addi x5, x19, 2
-    .word 0x002282b3  # add x5, x5, x2
-    .word 0x0142c283  # lbu x5, 20(x5)
+    .word 0x002982b3  # add x5, x19, x2
+    .word 0x0162c283  # lbu x5, 22(x5)
     .word 0x00829293  # slli x5, x5, 8
-    .word 0x00398313  # addi x6, x19, 3
-    .word 0x00230333  # add x6, x6, x2
-    .word 0x01434303  # lbu x6, 20(x6)
+    .word 0x00298333  # add x6, x19, x2
+    .word 0x01734303  # lbu x6, 23(x6)
     .word 0x0062e6b3  # or x13, x5, x6
     .word 0x00d66333  # or x6, x12, x13
     .word 0x00251293  # slli x5, x10, 2
@@ -197,37 +194,33 @@ sha1_block:
     .word 0x0462aa23  # sw x6, 84(x5)
     .word 0x00150513  # addi x10, x10, 1
     .word 0x01053293  # sltiu x5, x10, 16
-    .word 0xfa0292e3  # bne x5, x0, -92
+    .word 0xfa0298e3  # bne x5, x0, -80
     .word 0xfff50513  # addi x10, x10, -1
     .word 0x00000593  # addi x11, x0, 0
-    .word 0x00d58293  # addi x5, x11, 13
-    .word 0x00229293  # slli x5, x5, 2
+    .word 0x00259293  # slli x5, x11, 2
     .word 0x002282b3  # add x5, x5, x2
-    .word 0x0542a283  # lw x5, 84(x5)
-    .word 0x00858313  # addi x6, x11, 8
-    .word 0x00231313  # slli x6, x6, 2
+    .word 0x0882a283  # lw x5, 136(x5)
+    .word 0x00259313  # slli x6, x11, 2
     .word 0x00230333  # add x6, x6, x2
-    .word 0x05432303  # lw x6, 84(x6)
+    .word 0x07432303  # lw x6, 116(x6)
     .word 0x0062c2b3  # xor x5, x5, x6
-    .word 0x00258313  # addi x6, x11, 2
-    .word 0x00231313  # slli x6, x6, 2
+    .word 0x00259313  # slli x6, x11, 2
     .word 0x00230333  # add x6, x6, x2
-    .word 0x05432303  # lw x6, 84(x6)
+    .word 0x05c32303  # lw x6, 92(x6)
     .word 0x0062c2b3  # xor x5, x5, x6
     .word 0x00259313  # slli x6, x11, 2
     .word 0x00230333  # add x6, x6, x2
     .word 0x05432303  # lw x6, 84(x6)
     .word 0x0062c633  # xor x12, x5, x6
-    .word 0x01058293  # addi x5, x11, 16
     .word 0x00161f13  # slli x30, x12, 1
     .word 0x01f65313  # srli x6, x12, 31
     .word 0x006f0333  # add x6, x30, x6
-    .word 0x00229293  # slli x5, x5, 2
+    .word 0x00259293  # slli x5, x11, 2
     .word 0x002282b3  # add x5, x5, x2
-    .word 0x0462aa23  # sw x6, 84(x5)
+    .word 0x0862aa23  # sw x6, 148(x5)
     .word 0x00158593  # addi x11, x11, 1
     .word 0x0405b293  # sltiu x5, x11, 64
-    .word 0xf8029ae3  # bne x5, x0, -108
+    .word 0xfa0292e3  # bne x5, x0, -92
     .word 0xfff58593  # addi x11, x11, -1
     .word 0x00012603  # lw x12, 0(x2)
     .word 0x00412683  # lw x13, 4(x2)
@@ -264,10 +257,9 @@ sha1_block:
     .word 0x00e34333  # xor x6, x6, x14
     .word 0x006282b3  # add x5, x5, x6
     .word 0x011282b3  # add x5, x5, x17
-    .word 0x00198313  # addi x6, x19, 1
-    .word 0x00231313  # slli x6, x6, 2
+    .word 0x00299313  # slli x6, x19, 2
     .word 0x00230333  # add x6, x6, x2
-    .word 0x05432303  # lw x6, 84(x6)
+    .word 0x05832303  # lw x6, 88(x6)
     .word 0x006287b3  # add x15, x5, x6
     .word 0x01e61f13  # slli x30, x12, 30
     .word 0x00265613  # srli x12, x12, 2
@@ -281,10 +273,9 @@ sha1_block:
     .word 0x00d34333  # xor x6, x6, x13
     .word 0x006282b3  # add x5, x5, x6
     .word 0x011282b3  # add x5, x5, x17
-    .word 0x00298313  # addi x6, x19, 2
-    .word 0x00231313  # slli x6, x6, 2
+    .word 0x00299313  # slli x6, x19, 2
     .word 0x00230333  # add x6, x6, x2
-    .word 0x05432303  # lw x6, 84(x6)
+    .word 0x05c32303  # lw x6, 92(x6)
     .word 0x00628733  # add x14, x5, x6
     .word 0x01e81f13  # slli x30, x16, 30
     .word 0x00285813  # srli x16, x16, 2
@@ -298,10 +289,9 @@ sha1_block:
     .word 0x00c34333  # xor x6, x6, x12
     .word 0x006282b3  # add x5, x5, x6
     .word 0x011282b3  # add x5, x5, x17
-    .word 0x00398313  # addi x6, x19, 3
-    .word 0x00231313  # slli x6, x6, 2
+    .word 0x00299313  # slli x6, x19, 2
     .word 0x00230333  # add x6, x6, x2
-    .word 0x05432303  # lw x6, 84(x6)
+    .word 0x06032303  # lw x6, 96(x6)
     .word 0x006286b3  # add x13, x5, x6
     .word 0x01e79f13  # slli x30, x15, 30
     .word 0x0027d793  # srli x15, x15, 2
@@ -315,17 +305,16 @@ sha1_block:
     .word 0x01034333  # xor x6, x6, x16
     .word 0x006282b3  # add x5, x5, x6
     .word 0x011282b3  # add x5, x5, x17
-    .word 0x00498313  # addi x6, x19, 4
-    .word 0x00231313  # slli x6, x6, 2
+    .word 0x00299313  # slli x6, x19, 2
     .word 0x00230333  # add x6, x6, x2
-    .word 0x05432303  # lw x6, 84(x6)
+    .word 0x06432303  # lw x6, 100(x6)
     .word 0x00628633  # add x12, x5, x6
     .word 0x01e71f13  # slli x30, x14, 30
     .word 0x00275713  # srli x14, x14, 2
     .word 0x00ef0733  # add x14, x30, x14
     .word 0x00190913  # addi x18, x18, 1
     .word 0x00493293  # sltiu x5, x18, 4
-    .word 0xea0290e3  # bne x5, x0, -352
+    .word 0xea0298e3  # bne x5, x0, -336
     .word 0xfff90913  # addi x18, x18, -1
     .word 0x6ed9f8b7  # lui x17, 0x6ed9f
     .word 0xba188893  # addi x17, x17, -1119
@@ -355,10 +344,9 @@ sha1_block:
     .word 0x00e34333  # xor x6, x6, x14
     .word 0x006282b3  # add x5, x5, x6
     .word 0x011282b3  # add x5, x5, x17
-    .word 0x00198313  # addi x6, x19, 1
-    .word 0x00231313  # slli x6, x6, 2
+    .word 0x00299313  # slli x6, x19, 2
     .word 0x00230333  # add x6, x6, x2
-    .word 0x05432303  # lw x6, 84(x6)
+    .word 0x05832303  # lw x6, 88(x6)
     .word 0x006287b3  # add x15, x5, x6
     .word 0x01e61f13  # slli x30, x12, 30
     .word 0x00265613  # srli x12, x12, 2
@@ -371,10 +359,9 @@ sha1_block:
     .word 0x00d34333  # xor x6, x6, x13
     .word 0x006282b3  # add x5, x5, x6
     .word 0x011282b3  # add x5, x5, x17
-    .word 0x00298313  # addi x6, x19, 2
-    .word 0x00231313  # slli x6, x6, 2
+    .word 0x00299313  # slli x6, x19, 2
     .word 0x00230333  # add x6, x6, x2
-    .word 0x05432303  # lw x6, 84(x6)
+    .word 0x05c32303  # lw x6, 92(x6)
     .word 0x00628733  # add x14, x5, x6
     .word 0x01e81f13  # slli x30, x16, 30
     .word 0x00285813  # srli x16, x16, 2
@@ -387,10 +374,9 @@ sha1_block:
     .word 0x00c34333  # xor x6, x6, x12
     .word 0x006282b3  # add x5, x5, x6
     .word 0x011282b3  # add x5, x5, x17
-    .word 0x00398313  # addi x6, x19, 3
-    .word 0x00231313  # slli x6, x6, 2
+    .word 0x00299313  # slli x6, x19, 2
     .word 0x00230333  # add x6, x6, x2
-    .word 0x05432303  # lw x6, 84(x6)
+    .word 0x06032303  # lw x6, 96(x6)
     .word 0x006286b3  # add x13, x5, x6
     .word 0x01e79f13  # slli x30, x15, 30
     .word 0x0027d793  # srli x15, x15, 2
@@ -403,17 +389,16 @@ sha1_block:
     .word 0x01034333  # xor x6, x6, x16
     .word 0x006282b3  # add x5, x5, x6
     .word 0x011282b3  # add x5, x5, x17
-    .word 0x00498313  # addi x6, x19, 4
-    .word 0x00231313  # slli x6, x6, 2
+    .word 0x00299313  # slli x6, x19, 2
     .word 0x00230333  # add x6, x6, x2
-    .word 0x05432303  # lw x6, 84(x6)
+    .word 0x06432303  # lw x6, 100(x6)
     .word 0x00628633  # add x12, x5, x6
     .word 0x01e71f13  # slli x30, x14, 30
     .word 0x00275713  # srli x14, x14, 2
     .word 0x00ef0733  # add x14, x30, x14
     .word 0x001a0a13  # addi x20, x20, 1
     .word 0x008a3293  # sltiu x5, x20, 8
-    .word 0xea029ae3  # bne x5, x0, -332
+    .word 0xec0292e3  # bne x5, x0, -316
     .word 0xfffa0a13  # addi x20, x20, -1
     .word 0x8f1bc8b7  # lui x17, 0x8f1bc
     .word 0xcdc88893  # addi x17, x17, -804
@@ -447,10 +432,9 @@ sha1_block:
     .word 0x00736333  # or x6, x6, x7
     .word 0x006282b3  # add x5, x5, x6
     .word 0x011282b3  # add x5, x5, x17
-    .word 0x00198313  # addi x6, x19, 1
-    .word 0x00231313  # slli x6, x6, 2
+    .word 0x00299313  # slli x6, x19, 2
     .word 0x00230333  # add x6, x6, x2
-    .word 0x05432303  # lw x6, 84(x6)
+    .word 0x05832303  # lw x6, 88(x6)
     .word 0x006287b3  # add x15, x5, x6
     .word 0x01e61f13  # slli x30, x12, 30
     .word 0x00265613  # srli x12, x12, 2
@@ -465,10 +449,9 @@ sha1_block:
     .word 0x00736333  # or x6, x6, x7
     .word 0x006282b3  # add x5, x5, x6
     .word 0x011282b3  # add x5, x5, x17
-    .word 0x00298313  # addi x6, x19, 2
-    .word 0x00231313  # slli x6, x6, 2
+    .word 0x00299313  # slli x6, x19, 2
     .word 0x00230333  # add x6, x6, x2
-    .word 0x05432303  # lw x6, 84(x6)
+    .word 0x05c32303  # lw x6, 92(x6)
     .word 0x00628733  # add x14, x5, x6
     .word 0x01e81f13  # slli x30, x16, 30
     .word 0x00285813  # srli x16, x16, 2
@@ -483,10 +466,9 @@ sha1_block:
     .word 0x00736333  # or x6, x6, x7
     .word 0x006282b3  # add x5, x5, x6
     .word 0x011282b3  # add x5, x5, x17
-    .word 0x00398313  # addi x6, x19, 3
-    .word 0x00231313  # slli x6, x6, 2
+    .word 0x00299313  # slli x6, x19, 2
     .word 0x00230333  # add x6, x6, x2
-    .word 0x05432303  # lw x6, 84(x6)
+    .word 0x06032303  # lw x6, 96(x6)
     .word 0x006286b3  # add x13, x5, x6
     .word 0x01e79f13  # slli x30, x15, 30
     .word 0x0027d793  # srli x15, x15, 2
@@ -501,17 +483,16 @@ sha1_block:
     .word 0x00736333  # or x6, x6, x7
     .word 0x006282b3  # add x5, x5, x6
     .word 0x011282b3  # add x5, x5, x17
-    .word 0x00498313  # addi x6, x19, 4
-    .word 0x00231313  # slli x6, x6, 2
+    .word 0x00299313  # slli x6, x19, 2
     .word 0x00230333  # add x6, x6, x2
-    .word 0x05432303  # lw x6, 84(x6)
+    .word 0x06432303  # lw x6, 100(x6)
     .word 0x00628633  # add x12, x5, x6
     .word 0x01e71f13  # slli x30, x14, 30
     .word 0x00275713  # srli x14, x14, 2
     .word 0x00ef0733  # add x14, x30, x14
     .word 0x001a8a93  # addi x21, x21, 1
     .word 0x00cab293  # sltiu x5, x21, 12
-    .word 0xe80296e3  # bne x5, x0, -372
+    .word 0xe8029ee3  # bne x5, x0, -356
     .word 0xfffa8a93  # addi x21, x21, -1
     .word 0xca62c8b7  # lui x17, 0xca62c
     .word 0x1d688893  # addi x17, x17, 470
@@ -541,10 +522,9 @@ sha1_block:
     .word 0x00e34333  # xor x6, x6, x14
     .word 0x006282b3  # add x5, x5, x6
     .word 0x011282b3  # add x5, x5, x17
-    .word 0x00198313  # addi x6, x19, 1
-    .word 0x00231313  # slli x6, x6, 2
+    .word 0x00299313  # slli x6, x19, 2
     .word 0x00230333  # add x6, x6, x2
-    .word 0x05432303  # lw x6, 84(x6)
+    .word 0x05832303  # lw x6, 88(x6)
     .word 0x006287b3  # add x15, x5, x6
     .word 0x01e61f13  # slli x30, x12, 30
     .word 0x00265613  # srli x12, x12, 2
@@ -557,10 +537,9 @@ sha1_block:
     .word 0x00d34333  # xor x6, x6, x13
     .word 0x006282b3  # add x5, x5, x6
     .word 0x011282b3  # add x5, x5, x17
-    .word 0x00298313  # addi x6, x19, 2
-    .word 0x00231313  # slli x6, x6, 2
+    .word 0x00299313  # slli x6, x19, 2
     .word 0x00230333  # add x6, x6, x2
-    .word 0x05432303  # lw x6, 84(x6)
+    .word 0x05c32303  # lw x6, 92(x6)
     .word 0x00628733  # add x14, x5, x6
     .word 0x01e81f13  # slli x30, x16, 30
     .word 0x00285813  # srli x16, x16, 2
@@ -573,10 +552,9 @@ sha1_block:
     .word 0x00c34333  # xor x6, x6, x12
     .word 0x006282b3  # add x5, x5, x6
     .word 0x011282b3  # add x5, x5, x17
-    .word 0x00398313  # addi x6, x19, 3
-    .word 0x00231313  # slli x6, x6, 2
+    .word 0x00299313  # slli x6, x19, 2
     .word 0x00230333  # add x6, x6, x2
-    .word 0x05432303  # lw x6, 84(x6)
+    .word 0x06032303  # lw x6, 96(x6)
     .word 0x006286b3  # add x13, x5, x6
     .word 0x01e79f13  # slli x30, x15, 30
     .word 0x0027d793  # srli x15, x15, 2
@@ -589,17 +567,16 @@ sha1_block:
     .word 0x01034333  # xor x6, x6, x16
     .word 0x006282b3  # add x5, x5, x6
     .word 0x011282b3  # add x5, x5, x17
-    .word 0x00498313  # addi x6, x19, 4
-    .word 0x00231313  # slli x6, x6, 2
+    .word 0x00299313  # slli x6, x19, 2
     .word 0x00230333  # add x6, x6, x2
-    .word 0x05432303  # lw x6, 84(x6)
+    .word 0x06432303  # lw x6, 100(x6)
     .word 0x00628633  # add x12, x5, x6
     .word 0x01e71f13  # slli x30, x14, 30
     .word 0x00275713  # srli x14, x14, 2
     .word 0x00ef0733  # add x14, x30, x14
     .word 0x001b0b13  # addi x22, x22, 1
     .word 0x010b3293  # sltiu x5, x22, 16
-    .word 0xea029ae3  # bne x5, x0, -332
+    .word 0xec0292e3  # bne x5, x0, -316
     .word 0xfffb0b13  # addi x22, x22, -1
     .word 0x00012283  # lw x5, 0(x2)
     .word 0x00c282b3  # add x5, x5, x12

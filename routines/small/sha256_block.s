@@ -1,4 +1,4 @@
-# sha256_block: made by factc function; 839 words, 496 bytes of stack, profile 1
+# sha256_block: made by factc 1.0.0 function; 822 words, 496 bytes of stack, profile 1
     .option push
     .option norvc
     .option norelax
@@ -325,18 +325,15 @@ sha256_block:
     .word 0x002b82b3  # add x5, x23, x2
     .word 0x0202c283  # lbu x5, 32(x5)
     .word 0x01829293  # slli x5, x5, 24
-    .word 0x001b8313  # addi x6, x23, 1
-    .word 0x00230333  # add x6, x6, x2
-    .word 0x02034303  # lbu x6, 32(x6)
+    .word 0x002b8333  # add x6, x23, x2
+    .word 0x02134303  # lbu x6, 33(x6)
     .word 0x01031313  # slli x6, x6, 16
     .word 0x0062e533  # or x10, x5, x6
-    .word 0x002b8293  # addi x5, x23, 2
-    .word 0x002282b3  # add x5, x5, x2
-    .word 0x0202c283  # lbu x5, 32(x5)
+    .word 0x002b82b3  # add x5, x23, x2
+    .word 0x0222c283  # lbu x5, 34(x5)
     .word 0x00829293  # slli x5, x5, 8
-    .word 0x003b8313  # addi x6, x23, 3
-    .word 0x00230333  # add x6, x6, x2
-    .word 0x02034303  # lbu x6, 32(x6)
+    .word 0x002b8333  # add x6, x23, x2
+    .word 0x02334303  # lbu x6, 35(x6)
     .word 0x0062e5b3  # or x11, x5, x6
     .word 0x00b56333  # or x6, x10, x11
     .word 0x00241293  # slli x5, x8, 2
@@ -344,7 +341,7 @@ sha256_block:
     .word 0x0662a023  # sw x6, 96(x5)
     .word 0x00140413  # addi x8, x8, 1
     .word 0x01043293  # sltiu x5, x8, 16
-    .word 0xfa0292e3  # bne x5, x0, -92
+    .word 0xfa0298e3  # bne x5, x0, -80
     .word 0xfff40413  # addi x8, x8, -1
     .word 0x00012483  # lw x9, 0(x2)
     .word 0x00412503  # lw x10, 4(x2)
@@ -420,15 +417,13 @@ sha256_block:
     .word 0x00c37333  # and x6, x6, x12
     .word 0x00e34333  # xor x6, x6, x14
     .word 0x006282b3  # add x5, x5, x6
-    .word 0x001b8313  # addi x6, x23, 1
-    .word 0x00231313  # slli x6, x6, 2
+    .word 0x002b9313  # slli x6, x23, 2
     .word 0x00230333  # add x6, x6, x2
-    .word 0x06032303  # lw x6, 96(x6)
+    .word 0x06432303  # lw x6, 100(x6)
     .word 0x006282b3  # add x5, x5, x6
-    .word 0x001c0313  # addi x6, x24, 1
-    .word 0x00231313  # slli x6, x6, 2
+    .word 0x002c1313  # slli x6, x24, 2
     .word 0x00230333  # add x6, x6, x2
-    .word 0x0a032303  # lw x6, 160(x6)
+    .word 0x0a432303  # lw x6, 164(x6)
     .word 0x006287b3  # add x15, x5, x6
     .word 0x00f585b3  # add x11, x11, x15
     .word 0x009848b3  # xor x17, x16, x9
@@ -463,15 +458,13 @@ sha256_block:
     .word 0x00b37333  # and x6, x6, x11
     .word 0x00d34333  # xor x6, x6, x13
     .word 0x006282b3  # add x5, x5, x6
-    .word 0x002b8313  # addi x6, x23, 2
-    .word 0x00231313  # slli x6, x6, 2
+    .word 0x002b9313  # slli x6, x23, 2
     .word 0x00230333  # add x6, x6, x2
-    .word 0x06032303  # lw x6, 96(x6)
+    .word 0x06832303  # lw x6, 104(x6)
     .word 0x006282b3  # add x5, x5, x6
-    .word 0x002c0313  # addi x6, x24, 2
-    .word 0x00231313  # slli x6, x6, 2
+    .word 0x002c1313  # slli x6, x24, 2
     .word 0x00230333  # add x6, x6, x2
-    .word 0x0a032303  # lw x6, 160(x6)
+    .word 0x0a832303  # lw x6, 168(x6)
     .word 0x00628733  # add x14, x5, x6
     .word 0x00e50533  # add x10, x10, x14
     .word 0x0107c933  # xor x18, x15, x16
@@ -506,15 +499,13 @@ sha256_block:
     .word 0x00a37333  # and x6, x6, x10
     .word 0x00c34333  # xor x6, x6, x12
     .word 0x006282b3  # add x5, x5, x6
-    .word 0x003b8313  # addi x6, x23, 3
-    .word 0x00231313  # slli x6, x6, 2
+    .word 0x002b9313  # slli x6, x23, 2
     .word 0x00230333  # add x6, x6, x2
-    .word 0x06032303  # lw x6, 96(x6)
+    .word 0x06c32303  # lw x6, 108(x6)
     .word 0x006282b3  # add x5, x5, x6
-    .word 0x003c0313  # addi x6, x24, 3
-    .word 0x00231313  # slli x6, x6, 2
+    .word 0x002c1313  # slli x6, x24, 2
     .word 0x00230333  # add x6, x6, x2
-    .word 0x0a032303  # lw x6, 160(x6)
+    .word 0x0ac32303  # lw x6, 172(x6)
     .word 0x006286b3  # add x13, x5, x6
     .word 0x00d484b3  # add x9, x9, x13
     .word 0x00f748b3  # xor x17, x14, x15
@@ -549,15 +540,13 @@ sha256_block:
     .word 0x00937333  # and x6, x6, x9
     .word 0x00b34333  # xor x6, x6, x11
     .word 0x006282b3  # add x5, x5, x6
-    .word 0x004b8313  # addi x6, x23, 4
-    .word 0x00231313  # slli x6, x6, 2
+    .word 0x002b9313  # slli x6, x23, 2
     .word 0x00230333  # add x6, x6, x2
-    .word 0x06032303  # lw x6, 96(x6)
+    .word 0x07032303  # lw x6, 112(x6)
     .word 0x006282b3  # add x5, x5, x6
-    .word 0x004c0313  # addi x6, x24, 4
-    .word 0x00231313  # slli x6, x6, 2
+    .word 0x002c1313  # slli x6, x24, 2
     .word 0x00230333  # add x6, x6, x2
-    .word 0x0a032303  # lw x6, 160(x6)
+    .word 0x0b032303  # lw x6, 176(x6)
     .word 0x00628633  # add x12, x5, x6
     .word 0x00c80833  # add x16, x16, x12
     .word 0x00e6c933  # xor x18, x13, x14
@@ -592,15 +581,13 @@ sha256_block:
     .word 0x01037333  # and x6, x6, x16
     .word 0x00a34333  # xor x6, x6, x10
     .word 0x006282b3  # add x5, x5, x6
-    .word 0x005b8313  # addi x6, x23, 5
-    .word 0x00231313  # slli x6, x6, 2
+    .word 0x002b9313  # slli x6, x23, 2
     .word 0x00230333  # add x6, x6, x2
-    .word 0x06032303  # lw x6, 96(x6)
+    .word 0x07432303  # lw x6, 116(x6)
     .word 0x006282b3  # add x5, x5, x6
-    .word 0x005c0313  # addi x6, x24, 5
-    .word 0x00231313  # slli x6, x6, 2
+    .word 0x002c1313  # slli x6, x24, 2
     .word 0x00230333  # add x6, x6, x2
-    .word 0x0a032303  # lw x6, 160(x6)
+    .word 0x0b432303  # lw x6, 180(x6)
     .word 0x006285b3  # add x11, x5, x6
     .word 0x00b787b3  # add x15, x15, x11
     .word 0x00d648b3  # xor x17, x12, x13
@@ -635,15 +622,13 @@ sha256_block:
     .word 0x00f37333  # and x6, x6, x15
     .word 0x00934333  # xor x6, x6, x9
     .word 0x006282b3  # add x5, x5, x6
-    .word 0x006b8313  # addi x6, x23, 6
-    .word 0x00231313  # slli x6, x6, 2
+    .word 0x002b9313  # slli x6, x23, 2
     .word 0x00230333  # add x6, x6, x2
-    .word 0x06032303  # lw x6, 96(x6)
+    .word 0x07832303  # lw x6, 120(x6)
     .word 0x006282b3  # add x5, x5, x6
-    .word 0x006c0313  # addi x6, x24, 6
-    .word 0x00231313  # slli x6, x6, 2
+    .word 0x002c1313  # slli x6, x24, 2
     .word 0x00230333  # add x6, x6, x2
-    .word 0x0a032303  # lw x6, 160(x6)
+    .word 0x0b832303  # lw x6, 184(x6)
     .word 0x00628533  # add x10, x5, x6
     .word 0x00a70733  # add x14, x14, x10
     .word 0x00c5c933  # xor x18, x11, x12
@@ -678,15 +663,13 @@ sha256_block:
     .word 0x00e37333  # and x6, x6, x14
     .word 0x01034333  # xor x6, x6, x16
     .word 0x006282b3  # add x5, x5, x6
-    .word 0x007b8313  # addi x6, x23, 7
-    .word 0x00231313  # slli x6, x6, 2
+    .word 0x002b9313  # slli x6, x23, 2
     .word 0x00230333  # add x6, x6, x2
-    .word 0x06032303  # lw x6, 96(x6)
+    .word 0x07c32303  # lw x6, 124(x6)
     .word 0x006282b3  # add x5, x5, x6
-    .word 0x007c0313  # addi x6, x24, 7
-    .word 0x00231313  # slli x6, x6, 2
+    .word 0x002c1313  # slli x6, x24, 2
     .word 0x00230333  # add x6, x6, x2
-    .word 0x0a032303  # lw x6, 160(x6)
+    .word 0x0bc32303  # lw x6, 188(x6)
     .word 0x006284b3  # add x9, x5, x6
     .word 0x009686b3  # add x13, x13, x9
     .word 0x00b548b3  # xor x17, x10, x11
@@ -707,7 +690,7 @@ sha256_block:
     .word 0x012284b3  # add x9, x5, x18
     .word 0x001b0b13  # addi x22, x22, 1
     .word 0x002b3293  # sltiu x5, x22, 2
-    .word 0xa8029ae3  # bne x5, x0, -1388
+    .word 0xac0296e3  # bne x5, x0, -1332
     .word 0xfffb0b13  # addi x22, x22, -1
     .word 0x00300313  # addi x6, x0, 3
     .word 0x0c6af063  # bgeu x21, x6, 192
@@ -760,11 +743,11 @@ sha256_block:
     .word 0xfffc8c93  # addi x25, x25, -1
     .word 0x001a0a13  # addi x20, x20, 1
     .word 0x002a3293  # sltiu x5, x20, 2
-    .word 0x9a029ae3  # bne x5, x0, -1612
+    .word 0x9e0296e3  # bne x5, x0, -1556
     .word 0xfffa0a13  # addi x20, x20, -1
     .word 0x00198993  # addi x19, x19, 1
     .word 0x0029b293  # sltiu x5, x19, 2
-    .word 0x9a0290e3  # bne x5, x0, -1632
+    .word 0x9c029ce3  # bne x5, x0, -1576
     .word 0xfff98993  # addi x19, x19, -1
     .word 0x00012283  # lw x5, 0(x2)
     .word 0x009282b3  # add x5, x5, x9

@@ -1,4 +1,4 @@
-# sha256_short: made by factc function; 989 words, 608 bytes of stack, profile 1
+# sha256_short: made by factc 1.0.0 function; 972 words, 608 bytes of stack, profile 1
     .option push
     .option norvc
     .option norelax
@@ -419,7 +419,7 @@ sha256_short:
     .word 0x1fc12283  # lw x5, 508(x2)
     .word 0x0022b313  # sltiu x6, x5, 2
     .word 0x00031463  # bne x6, x0, 8
-    .word 0x7780006f  # jal x0, 1912
+    .word 0x7400006f  # jal x0, 1856
     .word 0x00028493  # addi x9, x5, 0
     .word 0x00000513  # addi x10, x0, 0
     .word 0x00000693  # addi x13, x0, 0
@@ -526,15 +526,13 @@ sha256_short:
     .word 0x00f37333  # and x6, x6, x15
     .word 0x01134333  # xor x6, x6, x17
     .word 0x006282b3  # add x5, x5, x6
-    .word 0x001c0313  # addi x6, x24, 1
-    .word 0x00231313  # slli x6, x6, 2
+    .word 0x002c1313  # slli x6, x24, 2
     .word 0x00230333  # add x6, x6, x2
-    .word 0x0bc32303  # lw x6, 188(x6)
+    .word 0x0c032303  # lw x6, 192(x6)
     .word 0x006282b3  # add x5, x5, x6
-    .word 0x001c8313  # addi x6, x25, 1
-    .word 0x00231313  # slli x6, x6, 2
+    .word 0x002c9313  # slli x6, x25, 2
     .word 0x00230333  # add x6, x6, x2
-    .word 0x0fc32303  # lw x6, 252(x6)
+    .word 0x10032303  # lw x6, 256(x6)
     .word 0x00628933  # add x18, x5, x6
     .word 0x01270733  # add x14, x14, x18
     .word 0x00c9ca33  # xor x20, x19, x12
@@ -569,15 +567,13 @@ sha256_short:
     .word 0x00e37333  # and x6, x6, x14
     .word 0x01034333  # xor x6, x6, x16
     .word 0x006282b3  # add x5, x5, x6
-    .word 0x002c0313  # addi x6, x24, 2
-    .word 0x00231313  # slli x6, x6, 2
+    .word 0x002c1313  # slli x6, x24, 2
     .word 0x00230333  # add x6, x6, x2
-    .word 0x0bc32303  # lw x6, 188(x6)
+    .word 0x0c432303  # lw x6, 196(x6)
     .word 0x006282b3  # add x5, x5, x6
-    .word 0x002c8313  # addi x6, x25, 2
-    .word 0x00231313  # slli x6, x6, 2
+    .word 0x002c9313  # slli x6, x25, 2
     .word 0x00230333  # add x6, x6, x2
-    .word 0x0fc32303  # lw x6, 252(x6)
+    .word 0x10432303  # lw x6, 260(x6)
     .word 0x006288b3  # add x17, x5, x6
     .word 0x011686b3  # add x13, x13, x17
     .word 0x01394ab3  # xor x21, x18, x19
@@ -612,15 +608,13 @@ sha256_short:
     .word 0x00d37333  # and x6, x6, x13
     .word 0x00f34333  # xor x6, x6, x15
     .word 0x006282b3  # add x5, x5, x6
-    .word 0x003c0313  # addi x6, x24, 3
-    .word 0x00231313  # slli x6, x6, 2
+    .word 0x002c1313  # slli x6, x24, 2
     .word 0x00230333  # add x6, x6, x2
-    .word 0x0bc32303  # lw x6, 188(x6)
+    .word 0x0c832303  # lw x6, 200(x6)
     .word 0x006282b3  # add x5, x5, x6
-    .word 0x003c8313  # addi x6, x25, 3
-    .word 0x00231313  # slli x6, x6, 2
+    .word 0x002c9313  # slli x6, x25, 2
     .word 0x00230333  # add x6, x6, x2
-    .word 0x0fc32303  # lw x6, 252(x6)
+    .word 0x10832303  # lw x6, 264(x6)
     .word 0x00628833  # add x16, x5, x6
     .word 0x01060633  # add x12, x12, x16
     .word 0x0128ca33  # xor x20, x17, x18
@@ -655,15 +649,13 @@ sha256_short:
     .word 0x00c37333  # and x6, x6, x12
     .word 0x00e34333  # xor x6, x6, x14
     .word 0x006282b3  # add x5, x5, x6
-    .word 0x004c0313  # addi x6, x24, 4
-    .word 0x00231313  # slli x6, x6, 2
+    .word 0x002c1313  # slli x6, x24, 2
     .word 0x00230333  # add x6, x6, x2
-    .word 0x0bc32303  # lw x6, 188(x6)
+    .word 0x0cc32303  # lw x6, 204(x6)
     .word 0x006282b3  # add x5, x5, x6
-    .word 0x004c8313  # addi x6, x25, 4
-    .word 0x00231313  # slli x6, x6, 2
+    .word 0x002c9313  # slli x6, x25, 2
     .word 0x00230333  # add x6, x6, x2
-    .word 0x0fc32303  # lw x6, 252(x6)
+    .word 0x10c32303  # lw x6, 268(x6)
     .word 0x006287b3  # add x15, x5, x6
     .word 0x00f989b3  # add x19, x19, x15
     .word 0x01184ab3  # xor x21, x16, x17
@@ -698,15 +690,13 @@ sha256_short:
     .word 0x01337333  # and x6, x6, x19
     .word 0x00d34333  # xor x6, x6, x13
     .word 0x006282b3  # add x5, x5, x6
-    .word 0x005c0313  # addi x6, x24, 5
-    .word 0x00231313  # slli x6, x6, 2
+    .word 0x002c1313  # slli x6, x24, 2
     .word 0x00230333  # add x6, x6, x2
-    .word 0x0bc32303  # lw x6, 188(x6)
+    .word 0x0d032303  # lw x6, 208(x6)
     .word 0x006282b3  # add x5, x5, x6
-    .word 0x005c8313  # addi x6, x25, 5
-    .word 0x00231313  # slli x6, x6, 2
+    .word 0x002c9313  # slli x6, x25, 2
     .word 0x00230333  # add x6, x6, x2
-    .word 0x0fc32303  # lw x6, 252(x6)
+    .word 0x11032303  # lw x6, 272(x6)
     .word 0x00628733  # add x14, x5, x6
     .word 0x00e90933  # add x18, x18, x14
     .word 0x0107ca33  # xor x20, x15, x16
@@ -741,15 +731,13 @@ sha256_short:
     .word 0x01237333  # and x6, x6, x18
     .word 0x00c34333  # xor x6, x6, x12
     .word 0x006282b3  # add x5, x5, x6
-    .word 0x006c0313  # addi x6, x24, 6
-    .word 0x00231313  # slli x6, x6, 2
+    .word 0x002c1313  # slli x6, x24, 2
     .word 0x00230333  # add x6, x6, x2
-    .word 0x0bc32303  # lw x6, 188(x6)
+    .word 0x0d432303  # lw x6, 212(x6)
     .word 0x006282b3  # add x5, x5, x6
-    .word 0x006c8313  # addi x6, x25, 6
-    .word 0x00231313  # slli x6, x6, 2
+    .word 0x002c9313  # slli x6, x25, 2
     .word 0x00230333  # add x6, x6, x2
-    .word 0x0fc32303  # lw x6, 252(x6)
+    .word 0x11432303  # lw x6, 276(x6)
     .word 0x006286b3  # add x13, x5, x6
     .word 0x00d888b3  # add x17, x17, x13
     .word 0x00f74ab3  # xor x21, x14, x15
@@ -784,15 +772,13 @@ sha256_short:
     .word 0x01137333  # and x6, x6, x17
     .word 0x01334333  # xor x6, x6, x19
     .word 0x006282b3  # add x5, x5, x6
-    .word 0x007c0313  # addi x6, x24, 7
-    .word 0x00231313  # slli x6, x6, 2
+    .word 0x002c1313  # slli x6, x24, 2
     .word 0x00230333  # add x6, x6, x2
-    .word 0x0bc32303  # lw x6, 188(x6)
+    .word 0x0d832303  # lw x6, 216(x6)
     .word 0x006282b3  # add x5, x5, x6
-    .word 0x007c8313  # addi x6, x25, 7
-    .word 0x00231313  # slli x6, x6, 2
+    .word 0x002c9313  # slli x6, x25, 2
     .word 0x00230333  # add x6, x6, x2
-    .word 0x0fc32303  # lw x6, 252(x6)
+    .word 0x11832303  # lw x6, 280(x6)
     .word 0x00628633  # add x12, x5, x6
     .word 0x00c80833  # add x16, x16, x12
     .word 0x00e6ca33  # xor x20, x13, x14
@@ -813,7 +799,7 @@ sha256_short:
     .word 0x01528633  # add x12, x5, x21
     .word 0x001b8b93  # addi x23, x23, 1
     .word 0x002bb293  # sltiu x5, x23, 2
-    .word 0xa8029ae3  # bne x5, x0, -1388
+    .word 0xac0296e3  # bne x5, x0, -1332
     .word 0xfffb8b93  # addi x23, x23, -1
     .word 0x00300313  # addi x6, x0, 3
     .word 0x0c6b7063  # bgeu x22, x6, 192
@@ -866,7 +852,7 @@ sha256_short:
     .word 0xfffd0d13  # addi x26, x26, -1
     .word 0x001b0b13  # addi x22, x22, 1
     .word 0x004b3293  # sltiu x5, x22, 4
-    .word 0x9a029ee3  # bne x5, x0, -1604
+    .word 0x9e029ae3  # bne x5, x0, -1548
     .word 0xfffb0b13  # addi x22, x22, -1
     .word 0x09c12283  # lw x5, 156(x2)
     .word 0x00c282b3  # add x5, x5, x12
@@ -894,7 +880,7 @@ sha256_short:
     .word 0x0a512c23  # sw x5, 184(x2)
     .word 0x00148493  # addi x9, x9, 1
     .word 0x0024b293  # sltiu x5, x9, 2
-    .word 0x88029ee3  # bne x5, x0, -1892
+    .word 0x8c029ae3  # bne x5, x0, -1836
     .word 0xfff48493  # addi x9, x9, -1
     .word 0x0040006f  # jal x0, 4
     .word 0x20012423  # sw x0, 520(x2)
@@ -904,7 +890,7 @@ sha256_short:
     .word 0x20c12283  # lw x5, 524(x2)
     .word 0x005332b3  # sltu x5, x6, x5
     .word 0x00029463  # bne x5, x0, 8
-    .word 0x0640006f  # jal x0, 100
+    .word 0x0580006f  # jal x0, 88
     .word 0x20612023  # sw x6, 512(x2)
     .word 0x00130313  # addi x6, x6, 1
     .word 0x20612423  # sw x6, 520(x2)
@@ -917,18 +903,15 @@ sha256_short:
     .word 0x0186d313  # srli x6, x13, 24
     .word 0x002c02b3  # add x5, x24, x2
     .word 0x06628e23  # sb x6, 124(x5)
-    .word 0x001c0293  # addi x5, x24, 1
     .word 0x0106d313  # srli x6, x13, 16
-    .word 0x002282b3  # add x5, x5, x2
-    .word 0x06628e23  # sb x6, 124(x5)
-    .word 0x002c0293  # addi x5, x24, 2
+    .word 0x002c02b3  # add x5, x24, x2
+    .word 0x06628ea3  # sb x6, 125(x5)
     .word 0x0086d313  # srli x6, x13, 8
-    .word 0x002282b3  # add x5, x5, x2
-    .word 0x06628e23  # sb x6, 124(x5)
-    .word 0x003c0293  # addi x5, x24, 3
-    .word 0x002282b3  # add x5, x5, x2
-    .word 0x06d28e23  # sb x13, 124(x5)
-    .word 0xf91ff06f  # jal x0, -112
+    .word 0x002c02b3  # add x5, x24, x2
+    .word 0x06628f23  # sb x6, 126(x5)
+    .word 0x002c02b3  # add x5, x24, x2
+    .word 0x06d28fa3  # sb x13, 127(x5)
+    .word 0xf9dff06f  # jal x0, -100
     # the result
     .word 0x00000513  # addi x10, x0, 0
     # parameter 2: the array, back

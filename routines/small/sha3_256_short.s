@@ -1,4 +1,4 @@
-# sha3_256_short: made by factc 1.0.0 function; 1302 words, 944 bytes of stack, profile 1
+# sha3_256_short: made by factc 1.0.0 function; 1301 words, 944 bytes of stack, profile 1
     .option push
     .option norvc
     .option norelax
@@ -384,7 +384,7 @@ sha3_256_short:
     .word 0x36812283  # lw x5, 872(x2)
     .word 0x005332b3  # sltu x5, x6, x5
     .word 0x00029463  # bne x5, x0, 8
-    .word 0x37d0006f  # jal x0, 2940
+    .word 0x3790006f  # jal x0, 2936
     .word 0x2e612623  # sw x6, 748(x2)
     .word 0x00130313  # addi x6, x6, 1
     .word 0x36612223  # sw x6, 868(x2)
@@ -574,10 +574,9 @@ sha3_256_short:
     .word 0x006642b3  # xor x5, x12, x6
     .word 0x2ec12303  # lw x6, 748(x2)
     .word 0x00131313  # slli x6, x6, 1
-    .word 0x00130313  # addi x6, x6, 1
     .word 0x00231313  # slli x6, x6, 2
     .word 0x00230333  # add x6, x6, x2
-    .word 0x17832303  # lw x6, 376(x6)
+    .word 0x17c32303  # lw x6, 380(x6)
     .word 0x0062c2b3  # xor x5, x5, x6
     .word 0x2a512c23  # sw x5, 696(x2)
     .word 0x41600333  # sub x6, x0, x22
@@ -1118,7 +1117,7 @@ sha3_256_short:
     .word 0x2a512c23  # sw x5, 696(x2)
     .word 0x2ad12e23  # sw x13, 700(x2)
     .word 0x2cc12023  # sw x12, 704(x2)
-    .word 0xc78ff06f  # jal x0, -2952
+    .word 0xc7cff06f  # jal x0, -2948
     .word 0x0b612623  # sw x22, 172(x2)
     .word 0x0b712823  # sw x23, 176(x2)
     .word 0x23c12283  # lw x5, 572(x2)

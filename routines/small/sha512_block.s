@@ -1,4 +1,4 @@
-# sha512_block: made by factc function; 2260 words, 864 bytes of stack, profile 1
+# sha512_block: made by factc 1.0.0 function; 2226 words, 864 bytes of stack, profile 1
     .option push
     .option norvc
     .option norelax
@@ -346,7 +346,7 @@ sha512_block:
     .word 0x30c12283  # lw x5, 780(x2)
     .word 0x005332b3  # sltu x5, x6, x5
     .word 0x00029463  # bne x5, x0, 8
-    .word 0x0c80006f  # jal x0, 200
+    .word 0x0b00006f  # jal x0, 176
     .word 0x14612023  # sw x6, 320(x2)
     .word 0x00130313  # addi x6, x6, 1
     .word 0x30612423  # sw x6, 776(x2)
@@ -355,37 +355,31 @@ sha512_block:
     .word 0x002602b3  # add x5, x12, x2
     .word 0x0402c283  # lbu x5, 64(x5)
     .word 0x01829293  # slli x5, x5, 24
-    .word 0x00160313  # addi x6, x12, 1
-    .word 0x00230333  # add x6, x6, x2
-    .word 0x04034303  # lbu x6, 64(x6)
+    .word 0x00260333  # add x6, x12, x2
+    .word 0x04134303  # lbu x6, 65(x6)
     .word 0x01031313  # slli x6, x6, 16
     .word 0x0062eab3  # or x21, x5, x6
-    .word 0x00260313  # addi x6, x12, 2
-    .word 0x00230333  # add x6, x6, x2
-    .word 0x04034303  # lbu x6, 64(x6)
+    .word 0x00260333  # add x6, x12, x2
+    .word 0x04234303  # lbu x6, 66(x6)
     .word 0x00831313  # slli x6, x6, 8
     .word 0x006ae2b3  # or x5, x21, x6
-    .word 0x00360313  # addi x6, x12, 3
-    .word 0x00230333  # add x6, x6, x2
-    .word 0x04034303  # lbu x6, 64(x6)
+    .word 0x00260333  # add x6, x12, x2
+    .word 0x04334303  # lbu x6, 67(x6)
     .word 0x0062eab3  # or x21, x5, x6
     .word 0x00460613  # addi x12, x12, 4
     .word 0x002602b3  # add x5, x12, x2
     .word 0x0402c283  # lbu x5, 64(x5)
     .word 0x01829293  # slli x5, x5, 24
-    .word 0x00160313  # addi x6, x12, 1
-    .word 0x00230333  # add x6, x6, x2
-    .word 0x04034303  # lbu x6, 64(x6)
+    .word 0x00260333  # add x6, x12, x2
+    .word 0x04134303  # lbu x6, 65(x6)
     .word 0x01031313  # slli x6, x6, 16
     .word 0x0062ebb3  # or x23, x5, x6
-    .word 0x00260313  # addi x6, x12, 2
-    .word 0x00230333  # add x6, x6, x2
-    .word 0x04034303  # lbu x6, 64(x6)
+    .word 0x00260333  # add x6, x12, x2
+    .word 0x04234303  # lbu x6, 66(x6)
     .word 0x00831313  # slli x6, x6, 8
     .word 0x006be2b3  # or x5, x23, x6
-    .word 0x00360313  # addi x6, x12, 3
-    .word 0x00230333  # add x6, x6, x2
-    .word 0x04034303  # lbu x6, 64(x6)
+    .word 0x00260333  # add x6, x12, x2
+    .word 0x04334303  # lbu x6, 67(x6)
     .word 0x0062ebb3  # or x23, x5, x6
     .word 0x14012283  # lw x5, 320(x2)
     .word 0x00229293  # slli x5, x5, 2
@@ -395,7 +389,7 @@ sha512_block:
     .word 0x00229293  # slli x5, x5, 2
     .word 0x002282b3  # add x5, x5, x2
     .word 0x1172a023  # sw x23, 256(x5)
-    .word 0xf2dff06f  # jal x0, -212
+    .word 0xf45ff06f  # jal x0, -188
     .word 0x428a32b7  # lui x5, 0x428a3
     .word 0xf9828293  # addi x5, x5, -104
     .word 0x14512223  # sw x5, 324(x2)
@@ -519,7 +513,7 @@ sha512_block:
     .word 0x30c12283  # lw x5, 780(x2)
     .word 0x005332b3  # sltu x5, x6, x5
     .word 0x00029463  # bne x5, x0, 8
-    .word 0x15d0106f  # jal x0, 6492
+    .word 0x0ed0106f  # jal x0, 6380
     .word 0x1c612a23  # sw x6, 468(x2)
     .word 0x00130313  # addi x6, x6, 1
     .word 0x30612423  # sw x6, 776(x2)
@@ -534,7 +528,7 @@ sha512_block:
     .word 0x31412283  # lw x5, 788(x2)
     .word 0x005332b3  # sltu x5, x6, x5
     .word 0x00029463  # bne x5, x0, 8
-    .word 0x6ad0006f  # jal x0, 3756
+    .word 0x63d0006f  # jal x0, 3644
     .word 0x1c612c23  # sw x6, 472(x2)
     .word 0x00130313  # addi x6, x6, 1
     .word 0x30612823  # sw x6, 784(x2)
@@ -690,27 +684,23 @@ sha512_block:
     .word 0x00f282b3  # add x5, x5, x15
     .word 0x015a3333  # sltu x6, x20, x21
     .word 0x006287b3  # add x15, x5, x6
-    .word 0x00160293  # addi x5, x12, 1
-    .word 0x00229a93  # slli x21, x5, 2
+    .word 0x00261a93  # slli x21, x12, 2
     .word 0x002a8ab3  # add x21, x21, x2
-    .word 0x100aaa83  # lw x21, 256(x21)
+    .word 0x104aaa83  # lw x21, 260(x21)
     .word 0x015a0a33  # add x20, x20, x21
-    .word 0x00160313  # addi x6, x12, 1
-    .word 0x00231313  # slli x6, x6, 2
+    .word 0x00261313  # slli x6, x12, 2
     .word 0x00230333  # add x6, x6, x2
-    .word 0x0c032303  # lw x6, 192(x6)
+    .word 0x0c432303  # lw x6, 196(x6)
     .word 0x006782b3  # add x5, x15, x6
     .word 0x015a3333  # sltu x6, x20, x21
     .word 0x006287b3  # add x15, x5, x6
-    .word 0x00160293  # addi x5, x12, 1
-    .word 0x00229a93  # slli x21, x5, 2
+    .word 0x00261a93  # slli x21, x12, 2
     .word 0x002a8ab3  # add x21, x21, x2
-    .word 0x184aaa83  # lw x21, 388(x21)
+    .word 0x188aaa83  # lw x21, 392(x21)
     .word 0x015a0a33  # add x20, x20, x21
-    .word 0x00160313  # addi x6, x12, 1
-    .word 0x00231313  # slli x6, x6, 2
+    .word 0x00261313  # slli x6, x12, 2
     .word 0x00230333  # add x6, x6, x2
-    .word 0x14432303  # lw x6, 324(x6)
+    .word 0x14832303  # lw x6, 328(x6)
     .word 0x006782b3  # add x5, x15, x6
     .word 0x015a3333  # sltu x6, x20, x21
     .word 0x006287b3  # add x15, x5, x6
@@ -802,27 +792,23 @@ sha512_block:
     .word 0x01a282b3  # add x5, x5, x26
     .word 0x017db333  # sltu x6, x27, x23
     .word 0x00628d33  # add x26, x5, x6
-    .word 0x00260293  # addi x5, x12, 2
-    .word 0x00229b93  # slli x23, x5, 2
+    .word 0x00261b93  # slli x23, x12, 2
     .word 0x002b8bb3  # add x23, x23, x2
-    .word 0x100bab83  # lw x23, 256(x23)
+    .word 0x108bab83  # lw x23, 264(x23)
     .word 0x017d8db3  # add x27, x27, x23
-    .word 0x00260313  # addi x6, x12, 2
-    .word 0x00231313  # slli x6, x6, 2
+    .word 0x00261313  # slli x6, x12, 2
     .word 0x00230333  # add x6, x6, x2
-    .word 0x0c032303  # lw x6, 192(x6)
+    .word 0x0c832303  # lw x6, 200(x6)
     .word 0x006d02b3  # add x5, x26, x6
     .word 0x017db333  # sltu x6, x27, x23
     .word 0x00628d33  # add x26, x5, x6
-    .word 0x00260293  # addi x5, x12, 2
-    .word 0x00229b93  # slli x23, x5, 2
+    .word 0x00261b93  # slli x23, x12, 2
     .word 0x002b8bb3  # add x23, x23, x2
-    .word 0x184bab83  # lw x23, 388(x23)
+    .word 0x18cbab83  # lw x23, 396(x23)
     .word 0x017d8db3  # add x27, x27, x23
-    .word 0x00260313  # addi x6, x12, 2
-    .word 0x00231313  # slli x6, x6, 2
+    .word 0x00261313  # slli x6, x12, 2
     .word 0x00230333  # add x6, x6, x2
-    .word 0x14432303  # lw x6, 324(x6)
+    .word 0x14c32303  # lw x6, 332(x6)
     .word 0x006d02b3  # add x5, x26, x6
     .word 0x017db333  # sltu x6, x27, x23
     .word 0x00628d33  # add x26, x5, x6
@@ -914,27 +900,23 @@ sha512_block:
     .word 0x018282b3  # add x5, x5, x24
     .word 0x015cb333  # sltu x6, x25, x21
     .word 0x00628c33  # add x24, x5, x6
-    .word 0x00360293  # addi x5, x12, 3
-    .word 0x00229a93  # slli x21, x5, 2
+    .word 0x00261a93  # slli x21, x12, 2
     .word 0x002a8ab3  # add x21, x21, x2
-    .word 0x100aaa83  # lw x21, 256(x21)
+    .word 0x10caaa83  # lw x21, 268(x21)
     .word 0x015c8cb3  # add x25, x25, x21
-    .word 0x00360313  # addi x6, x12, 3
-    .word 0x00231313  # slli x6, x6, 2
+    .word 0x00261313  # slli x6, x12, 2
     .word 0x00230333  # add x6, x6, x2
-    .word 0x0c032303  # lw x6, 192(x6)
+    .word 0x0cc32303  # lw x6, 204(x6)
     .word 0x006c02b3  # add x5, x24, x6
     .word 0x015cb333  # sltu x6, x25, x21
     .word 0x00628c33  # add x24, x5, x6
-    .word 0x00360293  # addi x5, x12, 3
-    .word 0x00229a93  # slli x21, x5, 2
+    .word 0x00261a93  # slli x21, x12, 2
     .word 0x002a8ab3  # add x21, x21, x2
-    .word 0x184aaa83  # lw x21, 388(x21)
+    .word 0x190aaa83  # lw x21, 400(x21)
     .word 0x015c8cb3  # add x25, x25, x21
-    .word 0x00360313  # addi x6, x12, 3
-    .word 0x00231313  # slli x6, x6, 2
+    .word 0x00261313  # slli x6, x12, 2
     .word 0x00230333  # add x6, x6, x2
-    .word 0x14432303  # lw x6, 324(x6)
+    .word 0x15032303  # lw x6, 336(x6)
     .word 0x006c02b3  # add x5, x24, x6
     .word 0x015cb333  # sltu x6, x25, x21
     .word 0x00628c33  # add x24, x5, x6
@@ -1030,30 +1012,26 @@ sha512_block:
     .word 0x0175b333  # sltu x6, x11, x23
     .word 0x006282b3  # add x5, x5, x6
     .word 0x1c512823  # sw x5, 464(x2)
-    .word 0x00460293  # addi x5, x12, 4
-    .word 0x00229b93  # slli x23, x5, 2
+    .word 0x00261b93  # slli x23, x12, 2
     .word 0x002b8bb3  # add x23, x23, x2
-    .word 0x100bab83  # lw x23, 256(x23)
+    .word 0x110bab83  # lw x23, 272(x23)
     .word 0x017585b3  # add x11, x11, x23
     .word 0x1d012283  # lw x5, 464(x2)
-    .word 0x00460313  # addi x6, x12, 4
-    .word 0x00231313  # slli x6, x6, 2
+    .word 0x00261313  # slli x6, x12, 2
     .word 0x00230333  # add x6, x6, x2
-    .word 0x0c032303  # lw x6, 192(x6)
+    .word 0x0d032303  # lw x6, 208(x6)
     .word 0x006282b3  # add x5, x5, x6
     .word 0x0175b333  # sltu x6, x11, x23
     .word 0x006282b3  # add x5, x5, x6
     .word 0x1c512823  # sw x5, 464(x2)
-    .word 0x00460293  # addi x5, x12, 4
-    .word 0x00229b93  # slli x23, x5, 2
+    .word 0x00261b93  # slli x23, x12, 2
     .word 0x002b8bb3  # add x23, x23, x2
-    .word 0x184bab83  # lw x23, 388(x23)
+    .word 0x194bab83  # lw x23, 404(x23)
     .word 0x017585b3  # add x11, x11, x23
     .word 0x1d012283  # lw x5, 464(x2)
-    .word 0x00460313  # addi x6, x12, 4
-    .word 0x00231313  # slli x6, x6, 2
+    .word 0x00261313  # slli x6, x12, 2
     .word 0x00230333  # add x6, x6, x2
-    .word 0x14432303  # lw x6, 324(x6)
+    .word 0x15432303  # lw x6, 340(x6)
     .word 0x006282b3  # add x5, x5, x6
     .word 0x0175b333  # sltu x6, x11, x23
     .word 0x006282b3  # add x5, x5, x6
@@ -1146,30 +1124,26 @@ sha512_block:
     .word 0x01553333  # sltu x6, x10, x21
     .word 0x006282b3  # add x5, x5, x6
     .word 0x1c512623  # sw x5, 460(x2)
-    .word 0x00560293  # addi x5, x12, 5
-    .word 0x00229a93  # slli x21, x5, 2
+    .word 0x00261a93  # slli x21, x12, 2
     .word 0x002a8ab3  # add x21, x21, x2
-    .word 0x100aaa83  # lw x21, 256(x21)
+    .word 0x114aaa83  # lw x21, 276(x21)
     .word 0x01550533  # add x10, x10, x21
     .word 0x1cc12283  # lw x5, 460(x2)
-    .word 0x00560313  # addi x6, x12, 5
-    .word 0x00231313  # slli x6, x6, 2
+    .word 0x00261313  # slli x6, x12, 2
     .word 0x00230333  # add x6, x6, x2
-    .word 0x0c032303  # lw x6, 192(x6)
+    .word 0x0d432303  # lw x6, 212(x6)
     .word 0x006282b3  # add x5, x5, x6
     .word 0x01553333  # sltu x6, x10, x21
     .word 0x006282b3  # add x5, x5, x6
     .word 0x1c512623  # sw x5, 460(x2)
-    .word 0x00560293  # addi x5, x12, 5
-    .word 0x00229a93  # slli x21, x5, 2
+    .word 0x00261a93  # slli x21, x12, 2
     .word 0x002a8ab3  # add x21, x21, x2
-    .word 0x184aaa83  # lw x21, 388(x21)
+    .word 0x198aaa83  # lw x21, 408(x21)
     .word 0x01550533  # add x10, x10, x21
     .word 0x1cc12283  # lw x5, 460(x2)
-    .word 0x00560313  # addi x6, x12, 5
-    .word 0x00231313  # slli x6, x6, 2
+    .word 0x00261313  # slli x6, x12, 2
     .word 0x00230333  # add x6, x6, x2
-    .word 0x14432303  # lw x6, 324(x6)
+    .word 0x15832303  # lw x6, 344(x6)
     .word 0x006282b3  # add x5, x5, x6
     .word 0x01553333  # sltu x6, x10, x21
     .word 0x006282b3  # add x5, x5, x6
@@ -1268,30 +1242,26 @@ sha512_block:
     .word 0x0174b333  # sltu x6, x9, x23
     .word 0x006282b3  # add x5, x5, x6
     .word 0x1c512423  # sw x5, 456(x2)
-    .word 0x00660293  # addi x5, x12, 6
-    .word 0x00229b93  # slli x23, x5, 2
+    .word 0x00261b93  # slli x23, x12, 2
     .word 0x002b8bb3  # add x23, x23, x2
-    .word 0x100bab83  # lw x23, 256(x23)
+    .word 0x118bab83  # lw x23, 280(x23)
     .word 0x017484b3  # add x9, x9, x23
     .word 0x1c812283  # lw x5, 456(x2)
-    .word 0x00660313  # addi x6, x12, 6
-    .word 0x00231313  # slli x6, x6, 2
+    .word 0x00261313  # slli x6, x12, 2
     .word 0x00230333  # add x6, x6, x2
-    .word 0x0c032303  # lw x6, 192(x6)
+    .word 0x0d832303  # lw x6, 216(x6)
     .word 0x006282b3  # add x5, x5, x6
     .word 0x0174b333  # sltu x6, x9, x23
     .word 0x006282b3  # add x5, x5, x6
     .word 0x1c512423  # sw x5, 456(x2)
-    .word 0x00660293  # addi x5, x12, 6
-    .word 0x00229b93  # slli x23, x5, 2
+    .word 0x00261b93  # slli x23, x12, 2
     .word 0x002b8bb3  # add x23, x23, x2
-    .word 0x184bab83  # lw x23, 388(x23)
+    .word 0x19cbab83  # lw x23, 412(x23)
     .word 0x017484b3  # add x9, x9, x23
     .word 0x1c812283  # lw x5, 456(x2)
-    .word 0x00660313  # addi x6, x12, 6
-    .word 0x00231313  # slli x6, x6, 2
+    .word 0x00261313  # slli x6, x12, 2
     .word 0x00230333  # add x6, x6, x2
-    .word 0x14432303  # lw x6, 324(x6)
+    .word 0x15c32303  # lw x6, 348(x6)
     .word 0x006282b3  # add x5, x5, x6
     .word 0x0174b333  # sltu x6, x9, x23
     .word 0x006282b3  # add x5, x5, x6
@@ -1390,30 +1360,26 @@ sha512_block:
     .word 0x01543333  # sltu x6, x8, x21
     .word 0x006282b3  # add x5, x5, x6
     .word 0x1c512223  # sw x5, 452(x2)
-    .word 0x00760293  # addi x5, x12, 7
-    .word 0x00229a93  # slli x21, x5, 2
+    .word 0x00261a93  # slli x21, x12, 2
     .word 0x002a8ab3  # add x21, x21, x2
-    .word 0x100aaa83  # lw x21, 256(x21)
+    .word 0x11caaa83  # lw x21, 284(x21)
     .word 0x01540433  # add x8, x8, x21
     .word 0x1c412283  # lw x5, 452(x2)
-    .word 0x00760313  # addi x6, x12, 7
-    .word 0x00231313  # slli x6, x6, 2
+    .word 0x00261313  # slli x6, x12, 2
     .word 0x00230333  # add x6, x6, x2
-    .word 0x0c032303  # lw x6, 192(x6)
+    .word 0x0dc32303  # lw x6, 220(x6)
     .word 0x006282b3  # add x5, x5, x6
     .word 0x01543333  # sltu x6, x8, x21
     .word 0x006282b3  # add x5, x5, x6
     .word 0x1c512223  # sw x5, 452(x2)
-    .word 0x00760293  # addi x5, x12, 7
-    .word 0x00229a93  # slli x21, x5, 2
+    .word 0x00261a93  # slli x21, x12, 2
     .word 0x002a8ab3  # add x21, x21, x2
-    .word 0x184aaa83  # lw x21, 388(x21)
+    .word 0x1a0aaa83  # lw x21, 416(x21)
     .word 0x01540433  # add x8, x8, x21
     .word 0x1c412283  # lw x5, 452(x2)
-    .word 0x00760313  # addi x6, x12, 7
-    .word 0x00231313  # slli x6, x6, 2
+    .word 0x00261313  # slli x6, x12, 2
     .word 0x00230333  # add x6, x6, x2
-    .word 0x14432303  # lw x6, 324(x6)
+    .word 0x16032303  # lw x6, 352(x6)
     .word 0x006282b3  # add x5, x5, x6
     .word 0x01543333  # sltu x6, x8, x21
     .word 0x006282b3  # add x5, x5, x6
@@ -1472,7 +1438,7 @@ sha512_block:
     .word 0x01743333  # sltu x6, x8, x23
     .word 0x006282b3  # add x5, x5, x6
     .word 0x1c512223  # sw x5, 452(x2)
-    .word 0x948ff06f  # jal x0, -3768
+    .word 0x9b8ff06f  # jal x0, -3656
     .word 0x1d412283  # lw x5, 468(x2)
     .word 0x00400313  # addi x6, x0, 4
     .word 0x2662f4e3  # bgeu x5, x6, 2664
@@ -2141,7 +2107,7 @@ sha512_block:
     .word 0x4a4762b7  # lui x5, 0x4a476
     .word 0x81728293  # addi x5, x5, -2025
     .word 0x1c512023  # sw x5, 448(x2)
-    .word 0xe98fe06f  # jal x0, -6504
+    .word 0xf08fe06f  # jal x0, -6392
     .word 0x00412283  # lw x5, 4(x2)
     .word 0x00828ab3  # add x21, x5, x8
     .word 0x00012283  # lw x5, 0(x2)

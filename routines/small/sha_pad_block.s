@@ -1,4 +1,4 @@
-# sha_pad_block: made by factc function; 196 words, 112 bytes of stack, profile 1
+# sha_pad_block: made by factc 1.0.0 function; 196 words, 112 bytes of stack, profile 1
     .option push
     .option norvc
     .option norelax

@@ -1,4 +1,4 @@
-# shift_left_64: made by factc function; 66 words, 32 bytes of stack, profile 1
+# shift_left_64: made by factc 1.0.0 function; 66 words, 32 bytes of stack, profile 1
     .option push
     .option norvc
     .option norelax

@@ -1,4 +1,4 @@
-# siphash24: made by factc 1.0.0 function; 424 words, 176 bytes of stack, profile 1
+# siphash24: made by factc 1.0.0 function; 422 words, 176 bytes of stack, profile 1
     .option push
     .option norvc
     .option norelax
@@ -222,14 +222,14 @@ siphash24:
     .word 0x06412283  # lw x5, 100(x2)
     .word 0x005332b3  # sltu x5, x6, x5
     .word 0x00029463  # bne x5, x0, 8
-    .word 0x1fc0006f  # jal x0, 508
+    .word 0x1f80006f  # jal x0, 504
     .word 0x00030a93  # addi x21, x6, 0
     .word 0x00000b13  # addi x22, x0, 0
     .word 0x00000b93  # addi x23, x0, 0
     .word 0x014ab2b3  # sltu x5, x21, x20
     .word 0x008ab313  # sltiu x6, x21, 8
     .word 0x0062f2b3  # and x5, x5, x6
-    .word 0x08028063  # beq x5, x0, 128
+    .word 0x06028e63  # beq x5, x0, 124
     .word 0x00000c13  # addi x24, x0, 0
     .word 0x003a9293  # slli x5, x21, 3
     .word 0x01828cb3  # add x25, x5, x24
@@ -246,16 +246,15 @@ siphash24:
     .word 0x0132b2b3  # sltu x5, x5, x19
     .word 0x03bcb313  # sltiu x6, x25, 59
     .word 0x0062f2b3  # and x5, x5, x6
-    .word 0x00028e63  # beq x5, x0, 28
-    .word 0x004c8313  # addi x6, x25, 4
-    .word 0x00230333  # add x6, x6, x2
-    .word 0x01034303  # lbu x6, 16(x6)
+    .word 0x00028c63  # beq x5, x0, 24
+    .word 0x002c8333  # add x6, x25, x2
+    .word 0x01434303  # lbu x6, 20(x6)
     .word 0x003c1393  # slli x7, x24, 3
     .word 0x00731333  # sll x6, x6, x7
     .word 0x006bebb3  # or x23, x23, x6
     .word 0x001c0c13  # addi x24, x24, 1
     .word 0x004c3293  # sltiu x5, x24, 4
-    .word 0xfa0290e3  # bne x5, x0, -96
+    .word 0xfa0292e3  # bne x5, x0, -92
     .word 0xfffc0c13  # addi x24, x24, -1
     .word 0x001a8293  # addi x5, x21, 1
     .word 0x01429663  # bne x5, x20, 12
@@ -346,7 +345,7 @@ siphash24:
     .word 0x001a8a93  # addi x21, x21, 1
     .word 0x06412283  # lw x5, 100(x2)
     .word 0x005ab2b3  # sltu x5, x21, x5
-    .word 0xe0029ce3  # bne x5, x0, -488
+    .word 0xe0029ee3  # bne x5, x0, -484
     .word 0xfffa8a93  # addi x21, x21, -1
     .word 0x0040006f  # jal x0, 4
     .word 0x00d5c2b3  # xor x5, x11, x13
@@ -360,14 +359,13 @@ siphash24:
     .word 0x00795333  # srl x6, x18, x7
     .word 0x002d82b3  # add x5, x27, x2
     .word 0x04628a23  # sb x6, 84(x5)
-    .word 0x004d8293  # addi x5, x27, 4
     .word 0x003d9393  # slli x7, x27, 3
     .word 0x00785333  # srl x6, x16, x7
-    .word 0x002282b3  # add x5, x5, x2
-    .word 0x04628a23  # sb x6, 84(x5)
+    .word 0x002d82b3  # add x5, x27, x2
+    .word 0x04628c23  # sb x6, 88(x5)
     .word 0x001d8d93  # addi x27, x27, 1
     .word 0x004db293  # sltiu x5, x27, 4
-    .word 0xfc029ae3  # bne x5, x0, -44
+    .word 0xfc029ce3  # bne x5, x0, -40
     .word 0xfffd8d93  # addi x27, x27, -1
     # the result
     .word 0x00000513  # addi x10, x0, 0

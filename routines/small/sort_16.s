@@ -1,4 +1,4 @@
-# sort_16: made by factc function; 495 words, 128 bytes of stack, profile 1
+# sort_16: made by factc 1.0.0 function; 495 words, 128 bytes of stack, profile 1
     .option push
     .option norvc
     .option norelax

@@ -1,4 +1,4 @@
-# sort_32: made by factc function; 166 words, 192 bytes of stack, profile 1
+# sort_32: made by factc 1.0.0 function; 166 words, 192 bytes of stack, profile 1
     .option push
     .option norvc
     .option norelax

@@ -1,4 +1,4 @@
-# sort_pairs_16: made by factc function; 251 words, 208 bytes of stack, profile 1
+# sort_pairs_16: made by factc 1.0.0 function; 251 words, 208 bytes of stack, profile 1
     .option push
     .option norvc
     .option norelax

@@ -1,4 +1,4 @@
-# speck64_decrypt: made by factc function; 207 words, 160 bytes of stack, profile 1
+# speck64_decrypt: made by factc 1.0.0 function; 203 words, 160 bytes of stack, profile 1
     .option push
     .option norvc
     .option norelax
@@ -93,10 +93,9 @@ speck64_decrypt:
     .word 0x01d55293  # srli x5, x10, 29
     .word 0x005f02b3  # add x5, x30, x5
     .word 0x00b2c533  # xor x10, x5, x11
-    .word 0x00178293  # addi x5, x15, 1
-    .word 0x00229293  # slli x5, x5, 2
+    .word 0x00279293  # slli x5, x15, 2
     .word 0x002282b3  # add x5, x5, x2
-    .word 0x00a2ac23  # sw x10, 24(x5)
+    .word 0x00a2ae23  # sw x10, 28(x5)
     .word 0x01861f13  # slli x30, x12, 24
     .word 0x00865293  # srli x5, x12, 8
     .word 0x005f02b3  # add x5, x30, x5
@@ -107,10 +106,9 @@ speck64_decrypt:
     .word 0x01d55293  # srli x5, x10, 29
     .word 0x005f02b3  # add x5, x30, x5
     .word 0x00c2c533  # xor x10, x5, x12
-    .word 0x00278293  # addi x5, x15, 2
-    .word 0x00229293  # slli x5, x5, 2
+    .word 0x00279293  # slli x5, x15, 2
     .word 0x002282b3  # add x5, x5, x2
-    .word 0x00a2ac23  # sw x10, 24(x5)
+    .word 0x02a2a023  # sw x10, 32(x5)
     .word 0x01869f13  # slli x30, x13, 24
     .word 0x0086d293  # srli x5, x13, 8
     .word 0x005f02b3  # add x5, x30, x5
@@ -123,7 +121,7 @@ speck64_decrypt:
     .word 0x00d2c533  # xor x10, x5, x13
     .word 0x00170713  # addi x14, x14, 1
     .word 0x00973293  # sltiu x5, x14, 9
-    .word 0xf40298e3  # bne x5, x0, -176
+    .word 0xf4029ce3  # bne x5, x0, -168
     .word 0xfff70713  # addi x14, x14, -1
     .word 0x00000813  # addi x16, x0, 0
     .word 0x01800293  # addi x5, x0, 24
@@ -134,10 +132,9 @@ speck64_decrypt:
     .word 0x01d29f13  # slli x30, x5, 29
     .word 0x0032d493  # srli x9, x5, 3
     .word 0x009f04b3  # add x9, x30, x9
-    .word 0x00278313  # addi x6, x15, 2
-    .word 0x00231313  # slli x6, x6, 2
+    .word 0x00279313  # slli x6, x15, 2
     .word 0x00230333  # add x6, x6, x2
-    .word 0x01832303  # lw x6, 24(x6)
+    .word 0x02032303  # lw x6, 32(x6)
     .word 0x006442b3  # xor x5, x8, x6
     .word 0x409282b3  # sub x5, x5, x9
     .word 0x00829f13  # slli x30, x5, 8
@@ -147,10 +144,9 @@ speck64_decrypt:
     .word 0x01d29f13  # slli x30, x5, 29
     .word 0x0032d493  # srli x9, x5, 3
     .word 0x009f04b3  # add x9, x30, x9
-    .word 0x00178313  # addi x6, x15, 1
-    .word 0x00231313  # slli x6, x6, 2
+    .word 0x00279313  # slli x6, x15, 2
     .word 0x00230333  # add x6, x6, x2
-    .word 0x01832303  # lw x6, 24(x6)
+    .word 0x01c32303  # lw x6, 28(x6)
     .word 0x006442b3  # xor x5, x8, x6
     .word 0x409282b3  # sub x5, x5, x9
     .word 0x00829f13  # slli x30, x5, 8
@@ -170,7 +166,7 @@ speck64_decrypt:
     .word 0x008f0433  # add x8, x30, x8
     .word 0x00180813  # addi x16, x16, 1
     .word 0x00983293  # sltiu x5, x16, 9
-    .word 0xf40298e3  # bne x5, x0, -176
+    .word 0xf4029ce3  # bne x5, x0, -168
     .word 0xfff80813  # addi x16, x16, -1
     .word 0x00812823  # sw x8, 16(x2)
     .word 0x00912a23  # sw x9, 20(x2)

@@ -1,4 +1,4 @@
-# tls_mac_check_20: made by factc function; 250 words, 512 bytes of stack, profile 1
+# tls_mac_check_20: made by factc 1.0.0 function; 250 words, 512 bytes of stack, profile 1
     .option push
     .option norvc
     .option norelax

@@ -1,4 +1,4 @@
-# tls_mac_check_32: made by factc function; 255 words, 624 bytes of stack, profile 1
+# tls_mac_check_32: made by factc 1.0.0 function; 255 words, 624 bytes of stack, profile 1
     .option push
     .option norvc
     .option norelax

@@ -1,4 +1,4 @@
-# tls_padding: made by factc function; 129 words, 304 bytes of stack, profile 1
+# tls_padding: made by factc 1.0.0 function; 129 words, 304 bytes of stack, profile 1
     .option push
     .option norvc
     .option norelax

@@ -1,4 +1,4 @@
-# x25519: made by factc 1.0.0 function; 1185 words, 1424 bytes of stack, profile 1
+# x25519: made by factc 1.0.0 function; 1169 words, 1424 bytes of stack, profile 1
     .option push
     .option norvc
     .option norelax
@@ -435,20 +435,19 @@ x25519:
     .word 0x52c12283  # lw x5, 1324(x2)
     .word 0x005332b3  # sltu x5, x6, x5
     .word 0x00029463  # bne x5, x0, 8
-    .word 0x0380006f  # jal x0, 56
+    .word 0x0340006f  # jal x0, 52
     .word 0x2e612223  # sw x6, 740(x2)
     .word 0x00130313  # addi x6, x6, 1
     .word 0x52612423  # sw x6, 1320(x2)
     .word 0x2e412283  # lw x5, 740(x2)
-    .word 0x01828293  # addi x5, x5, 24
     .word 0x2e412303  # lw x6, 740(x2)
     .word 0x00231313  # slli x6, x6, 2
     .word 0x00230333  # add x6, x6, x2
     .word 0x06032303  # lw x6, 96(x6)
     .word 0x00229293  # slli x5, x5, 2
     .word 0x002282b3  # add x5, x5, x2
-    .word 0x0662a023  # sw x6, 96(x5)
-    .word 0xfbdff06f  # jal x0, -68
+    .word 0x0c62a023  # sw x6, 192(x5)
+    .word 0xfc1ff06f  # jal x0, -64
     .word 0x00100293  # addi x5, x0, 1
     .word 0x08512023  # sw x5, 128(x2)
     .word 0x00100293  # addi x5, x0, 1
@@ -461,7 +460,7 @@ x25519:
     .word 0x52c12283  # lw x5, 1324(x2)
     .word 0x005332b3  # sltu x5, x6, x5
     .word 0x00029463  # bne x5, x0, 8
-    .word 0x10d0006f  # jal x0, 2316
+    .word 0x0d90006f  # jal x0, 2264
     .word 0x2e612623  # sw x6, 748(x2)
     .word 0x00130313  # addi x6, x6, 1
     .word 0x52612423  # sw x6, 1320(x2)
@@ -472,7 +471,7 @@ x25519:
     .word 0x2e512823  # sw x5, 752(x2)
     .word 0x2ec12283  # lw x5, 748(x2)
     .word 0x0ff00313  # addi x6, x0, 255
-    .word 0x1262f263  # bgeu x5, x6, 292
+    .word 0x1062fc63  # bgeu x5, x6, 280
     .word 0x0fe00293  # addi x5, x0, 254
     .word 0x2ec12303  # lw x6, 748(x2)
     .word 0x406282b3  # sub x5, x5, x6
@@ -507,7 +506,7 @@ x25519:
     .word 0x53412283  # lw x5, 1332(x2)
     .word 0x005332b3  # sltu x5, x6, x5
     .word 0x00029463  # bne x5, x0, 8
-    .word 0x0940006f  # jal x0, 148
+    .word 0x0880006f  # jal x0, 136
     .word 0x30612023  # sw x6, 768(x2)
     .word 0x00130313  # addi x6, x6, 1
     .word 0x52612823  # sw x6, 1328(x2)
@@ -517,10 +516,9 @@ x25519:
     .word 0x00230333  # add x6, x6, x2
     .word 0x06032303  # lw x6, 96(x6)
     .word 0x30012383  # lw x7, 768(x2)
-    .word 0x01038393  # addi x7, x7, 16
     .word 0x00239393  # slli x7, x7, 2
     .word 0x002383b3  # add x7, x7, x2
-    .word 0x0603a383  # lw x7, 96(x7)
+    .word 0x0a03a383  # lw x7, 160(x7)
     .word 0x00734333  # xor x6, x6, x7
     .word 0x0062fb33  # and x22, x5, x6
     .word 0x30012283  # lw x5, 768(x2)
@@ -533,21 +531,19 @@ x25519:
     .word 0x002282b3  # add x5, x5, x2
     .word 0x0662a023  # sw x6, 96(x5)
     .word 0x30012283  # lw x5, 768(x2)
-    .word 0x01028293  # addi x5, x5, 16
     .word 0x30012303  # lw x6, 768(x2)
-    .word 0x01030313  # addi x6, x6, 16
     .word 0x00231313  # slli x6, x6, 2
     .word 0x00230333  # add x6, x6, x2
-    .word 0x06032303  # lw x6, 96(x6)
+    .word 0x0a032303  # lw x6, 160(x6)
     .word 0x01634333  # xor x6, x6, x22
     .word 0x00229293  # slli x5, x5, 2
     .word 0x002282b3  # add x5, x5, x2
-    .word 0x0662a023  # sw x6, 96(x5)
-    .word 0xf61ff06f  # jal x0, -160
+    .word 0x0a62a023  # sw x6, 160(x5)
+    .word 0xf6dff06f  # jal x0, -148
     .word 0x2ed12423  # sw x13, 744(x2)
     .word 0x2ec12283  # lw x5, 748(x2)
     .word 0x0ff00313  # addi x6, x0, 255
-    .word 0x0a629e63  # bne x5, x6, 188
+    .word 0x0a629863  # bne x5, x6, 176
     .word 0x00800293  # addi x5, x0, 8
     .word 0x52512823  # sw x5, 1328(x2)
     .word 0x01800293  # addi x5, x0, 24
@@ -556,7 +552,7 @@ x25519:
     .word 0x53412283  # lw x5, 1332(x2)
     .word 0x005332b3  # sltu x5, x6, x5
     .word 0x00029463  # bne x5, x0, 8
-    .word 0x0980006f  # jal x0, 152
+    .word 0x08c0006f  # jal x0, 140
     .word 0x30612623  # sw x6, 780(x2)
     .word 0x00130313  # addi x6, x6, 1
     .word 0x52612823  # sw x6, 1328(x2)
@@ -567,10 +563,9 @@ x25519:
     .word 0x00230333  # add x6, x6, x2
     .word 0x06032303  # lw x6, 96(x6)
     .word 0x30c12383  # lw x7, 780(x2)
-    .word 0x01038393  # addi x7, x7, 16
     .word 0x00239393  # slli x7, x7, 2
     .word 0x002383b3  # add x7, x7, x2
-    .word 0x0603a383  # lw x7, 96(x7)
+    .word 0x0a03a383  # lw x7, 160(x7)
     .word 0x00734333  # xor x6, x6, x7
     .word 0x0062fb33  # and x22, x5, x6
     .word 0x30c12283  # lw x5, 780(x2)
@@ -583,17 +578,15 @@ x25519:
     .word 0x002282b3  # add x5, x5, x2
     .word 0x0662a023  # sw x6, 96(x5)
     .word 0x30c12283  # lw x5, 780(x2)
-    .word 0x01028293  # addi x5, x5, 16
     .word 0x30c12303  # lw x6, 780(x2)
-    .word 0x01030313  # addi x6, x6, 16
     .word 0x00231313  # slli x6, x6, 2
     .word 0x00230333  # add x6, x6, x2
-    .word 0x06032303  # lw x6, 96(x6)
+    .word 0x0a032303  # lw x6, 160(x6)
     .word 0x01634333  # xor x6, x6, x22
     .word 0x00229293  # slli x5, x5, 2
     .word 0x002282b3  # add x5, x5, x2
-    .word 0x0662a023  # sw x6, 96(x5)
-    .word 0xf5dff06f  # jal x0, -164
+    .word 0x0a62a023  # sw x6, 160(x5)
+    .word 0xf69ff06f  # jal x0, -152
     .word 0x52012823  # sw x0, 1328(x2)
     .word 0x2ec12283  # lw x5, 748(x2)
     .word 0x0ff2b293  # sltiu x5, x5, 255
@@ -611,7 +604,7 @@ x25519:
     .word 0x53412283  # lw x5, 1332(x2)
     .word 0x005332b3  # sltu x5, x6, x5
     .word 0x00029463  # bne x5, x0, 8
-    .word 0x6b00006f  # jal x0, 1712
+    .word 0x6940006f  # jal x0, 1684
     .word 0x30612a23  # sw x6, 788(x2)
     .word 0x00130313  # addi x6, x6, 1
     .word 0x52612823  # sw x6, 1328(x2)
@@ -667,7 +660,7 @@ x25519:
     .word 0x00537333  # and x6, x6, x5
     .word 0x0063c533  # xor x10, x7, x6
     .word 0x31812283  # lw x5, 792(x2)
-    .word 0x2c029463  # bne x5, x0, 712
+    .word 0x2a029c63  # bne x5, x0, 696
     .word 0x07857513  # andi x10, x10, 120
     .word 0x0785f593  # andi x11, x11, 120
     .word 0x07867613  # andi x12, x12, 120
@@ -770,10 +763,9 @@ x25519:
     .word 0x00430313  # addi x6, x6, 4
     .word 0xfedff06f  # jal x0, -20
     .word 0x00000b93  # addi x23, x0, 0
-    .word 0x008b8293  # addi x5, x23, 8
-    .word 0x00229b13  # slli x22, x5, 2
+    .word 0x002b9b13  # slli x22, x23, 2
     .word 0x002b0b33  # add x22, x22, x2
-    .word 0x370b2b03  # lw x22, 880(x22)
+    .word 0x390b2b03  # lw x22, 912(x22)
     .word 0x02600313  # addi x6, x0, 38
     .word 0x026b0a33  # mul x20, x22, x6
     .word 0x02600313  # addi x6, x0, 38
@@ -792,7 +784,7 @@ x25519:
     .word 0x3ad2ae23  # sw x13, 956(x5)
     .word 0x001b8b93  # addi x23, x23, 1
     .word 0x008bb293  # sltiu x5, x23, 8
-    .word 0xfa0294e3  # bne x5, x0, -88
+    .word 0xfa0296e3  # bne x5, x0, -84
     .word 0xfffb8b93  # addi x23, x23, -1
     .word 0x01300293  # addi x5, x0, 19
     .word 0x00181313  # slli x6, x16, 1
@@ -818,12 +810,11 @@ x25519:
     .word 0x51c12303  # lw x6, 1308(x2)
     .word 0x0062f2b3  # and x5, x5, x6
     .word 0x01628b33  # add x22, x5, x22
-    .word 0x00750293  # addi x5, x10, 7
     .word 0x51c12383  # lw x7, 1308(x2)
     .word 0x007b7333  # and x6, x22, x7
-    .word 0x00229293  # slli x5, x5, 2
+    .word 0x00251293  # slli x5, x10, 2
     .word 0x002282b3  # add x5, x5, x2
-    .word 0x0662a023  # sw x6, 96(x5)
+    .word 0x0662ae23  # sw x6, 124(x5)
     .word 0x01300293  # addi x5, x0, 19
     .word 0x01fb5313  # srli x6, x22, 31
     .word 0x02628b33  # mul x22, x5, x6
@@ -834,17 +825,15 @@ x25519:
     .word 0x00251293  # slli x5, x10, 2
     .word 0x002282b3  # add x5, x5, x2
     .word 0x0742a023  # sw x20, 96(x5)
-    .word 0x00150293  # addi x5, x10, 1
-    .word 0x00150313  # addi x6, x10, 1
-    .word 0x00231313  # slli x6, x6, 2
+    .word 0x00251313  # slli x6, x10, 2
     .word 0x00230333  # add x6, x6, x2
-    .word 0x06032303  # lw x6, 96(x6)
+    .word 0x06432303  # lw x6, 100(x6)
     .word 0x016a33b3  # sltu x7, x20, x22
     .word 0x00730333  # add x6, x6, x7
-    .word 0x00229293  # slli x5, x5, 2
+    .word 0x00251293  # slli x5, x10, 2
     .word 0x002282b3  # add x5, x5, x2
-    .word 0x0662a023  # sw x6, 96(x5)
-    .word 0x3080006f  # jal x0, 776
+    .word 0x0662a223  # sw x6, 100(x5)
+    .word 0x2fc0006f  # jal x0, 764
     .word 0x31812283  # lw x5, 792(x2)
     .word 0x00100313  # addi x6, x0, 1
     .word 0x06629863  # bne x5, x6, 112
@@ -874,7 +863,7 @@ x25519:
     .word 0x008cb293  # sltiu x5, x25, 8
     .word 0xfa029ae3  # bne x5, x0, -76
     .word 0xfffc8c93  # addi x25, x25, -1
-    .word 0x2900006f  # jal x0, 656
+    .word 0x2840006f  # jal x0, 644
     .word 0x31812283  # lw x5, 792(x2)
     .word 0x00200313  # addi x6, x0, 2
     .word 0x0e629c63  # bne x5, x6, 248
@@ -938,7 +927,7 @@ x25519:
     .word 0x0662a023  # sw x6, 96(x5)
     .word 0x016a3b33  # sltu x22, x20, x22
     .word 0xfb5ff06f  # jal x0, -76
-    .word 0x1900006f  # jal x0, 400
+    .word 0x1840006f  # jal x0, 388
     .word 0x07857513  # andi x10, x10, 120
     .word 0x0785f593  # andi x11, x11, 120
     .word 0x07867613  # andi x12, x12, 120
@@ -1012,12 +1001,11 @@ x25519:
     .word 0x51c12303  # lw x6, 1308(x2)
     .word 0x0062f2b3  # and x5, x5, x6
     .word 0x01628b33  # add x22, x5, x22
-    .word 0x00750293  # addi x5, x10, 7
     .word 0x51c12383  # lw x7, 1308(x2)
     .word 0x007b7333  # and x6, x22, x7
-    .word 0x00229293  # slli x5, x5, 2
+    .word 0x00251293  # slli x5, x10, 2
     .word 0x002282b3  # add x5, x5, x2
-    .word 0x0662a023  # sw x6, 96(x5)
+    .word 0x0662ae23  # sw x6, 124(x5)
     .word 0x01300293  # addi x5, x0, 19
     .word 0x01fb5313  # srli x6, x22, 31
     .word 0x02628b33  # mul x22, x5, x6
@@ -1028,18 +1016,16 @@ x25519:
     .word 0x00251293  # slli x5, x10, 2
     .word 0x002282b3  # add x5, x5, x2
     .word 0x0742a023  # sw x20, 96(x5)
-    .word 0x00150293  # addi x5, x10, 1
-    .word 0x00150313  # addi x6, x10, 1
-    .word 0x00231313  # slli x6, x6, 2
+    .word 0x00251313  # slli x6, x10, 2
     .word 0x00230333  # add x6, x6, x2
-    .word 0x06032303  # lw x6, 96(x6)
+    .word 0x06432303  # lw x6, 100(x6)
     .word 0x016a33b3  # sltu x7, x20, x22
     .word 0x00730333  # add x6, x6, x7
-    .word 0x00229293  # slli x5, x5, 2
+    .word 0x00251293  # slli x5, x10, 2
     .word 0x002282b3  # add x5, x5, x2
-    .word 0x0662a023  # sw x6, 96(x5)
-    .word 0x945ff06f  # jal x0, -1724
-    .word 0xee8ff06f  # jal x0, -2328
+    .word 0x0662a223  # sw x6, 100(x5)
+    .word 0x961ff06f  # jal x0, -1696
+    .word 0xf1cff06f  # jal x0, -2276
     .word 0x01300b13  # addi x22, x0, 19
     .word 0x4e400313  # addi x6, x0, 1252
     .word 0x00230333  # add x6, x6, x2
@@ -1058,22 +1044,21 @@ x25519:
     .word 0x52c12283  # lw x5, 1324(x2)
     .word 0x005332b3  # sltu x5, x6, x5
     .word 0x00029463  # bne x5, x0, 8
-    .word 0x0400006f  # jal x0, 64
+    .word 0x03c0006f  # jal x0, 60
     .word 0x50612223  # sw x6, 1284(x2)
     .word 0x00130313  # addi x6, x6, 1
     .word 0x52612423  # sw x6, 1320(x2)
     .word 0x50412283  # lw x5, 1284(x2)
-    .word 0x00828293  # addi x5, x5, 8
     .word 0x00229293  # slli x5, x5, 2
     .word 0x002282b3  # add x5, x5, x2
-    .word 0x0602a283  # lw x5, 96(x5)
+    .word 0x0802a283  # lw x5, 128(x5)
     .word 0x01628a33  # add x20, x5, x22
     .word 0x016a3b33  # sltu x22, x20, x22
     .word 0x50412283  # lw x5, 1284(x2)
     .word 0x00229293  # slli x5, x5, 2
     .word 0x002282b3  # add x5, x5, x2
     .word 0x4f42a223  # sw x20, 1252(x5)
-    .word 0xfb5ff06f  # jal x0, -76
+    .word 0xfb9ff06f  # jal x0, -72
     .word 0x50012283  # lw x5, 1280(x2)
     .word 0x01f2d293  # srli x5, x5, 31
     .word 0xfff28293  # addi x5, x5, -1
@@ -1090,7 +1075,7 @@ x25519:
     .word 0x52c12283  # lw x5, 1324(x2)
     .word 0x005332b3  # sltu x5, x6, x5
     .word 0x00029463  # bne x5, x0, 8
-    .word 0x0a00006f  # jal x0, 160
+    .word 0x09c0006f  # jal x0, 156
     .word 0x50612823  # sw x6, 1296(x2)
     .word 0x00130313  # addi x6, x6, 1
     .word 0x52612423  # sw x6, 1320(x2)
@@ -1100,10 +1085,9 @@ x25519:
     .word 0x00230333  # add x6, x6, x2
     .word 0x4e432303  # lw x6, 1252(x6)
     .word 0x51012383  # lw x7, 1296(x2)
-    .word 0x00838393  # addi x7, x7, 8
     .word 0x00239393  # slli x7, x7, 2
     .word 0x002383b3  # add x7, x7, x2
-    .word 0x0603a383  # lw x7, 96(x7)
+    .word 0x0803a383  # lw x7, 128(x7)
     .word 0x405002b3  # sub x5, x0, x5
     .word 0x00734333  # xor x6, x6, x7
     .word 0x00537333  # and x6, x6, x5
@@ -1129,7 +1113,7 @@ x25519:
     .word 0x002282b3  # add x5, x5, x2
     .word 0x04628023  # sb x6, 64(x5)
     .word 0xfbdff06f  # jal x0, -68
-    .word 0xf55ff06f  # jal x0, -172
+    .word 0xf59ff06f  # jal x0, -168
     # the result
     .word 0x00000513  # addi x10, x0, 0
     # parameter 2: the array, back

@@ -1,4 +1,4 @@
-# x25519_step: made by factc function; 945 words, 1200 bytes of stack, profile 1
+# x25519_step: made by factc 1.0.0 function; 930 words, 1200 bytes of stack, profile 1
     .option push
     .option norvc
     .option norelax
@@ -277,20 +277,19 @@ x25519_step:
     .word 0x45412283  # lw x5, 1108(x2)
     .word 0x005332b3  # sltu x5, x6, x5
     .word 0x00029463  # bne x5, x0, 8
-    .word 0x0380006f  # jal x0, 56
+    .word 0x0340006f  # jal x0, 52
     .word 0x2e612c23  # sw x6, 760(x2)
     .word 0x00130313  # addi x6, x6, 1
     .word 0x44612823  # sw x6, 1104(x2)
     .word 0x2f812283  # lw x5, 760(x2)
-    .word 0x00828293  # addi x5, x5, 8
     .word 0x2f812303  # lw x6, 760(x2)
     .word 0x00231313  # slli x6, x6, 2
     .word 0x00230333  # add x6, x6, x2
     .word 0x02432303  # lw x6, 36(x6)
     .word 0x00229293  # slli x5, x5, 2
     .word 0x002282b3  # add x5, x5, x2
-    .word 0x0a62a223  # sw x6, 164(x5)
-    .word 0xfbdff06f  # jal x0, -68
+    .word 0x0c62a223  # sw x6, 196(x5)
+    .word 0xfc1ff06f  # jal x0, -64
     .word 0x00012983  # lw x19, 0(x2)
     .word 0x00800293  # addi x5, x0, 8
     .word 0x44512823  # sw x5, 1104(x2)
@@ -300,7 +299,7 @@ x25519_step:
     .word 0x45412283  # lw x5, 1108(x2)
     .word 0x005332b3  # sltu x5, x6, x5
     .word 0x00029463  # bne x5, x0, 8
-    .word 0x0940006f  # jal x0, 148
+    .word 0x0880006f  # jal x0, 136
     .word 0x2e612e23  # sw x6, 764(x2)
     .word 0x00130313  # addi x6, x6, 1
     .word 0x44612823  # sw x6, 1104(x2)
@@ -310,10 +309,9 @@ x25519_step:
     .word 0x00230333  # add x6, x6, x2
     .word 0x0a432303  # lw x6, 164(x6)
     .word 0x2fc12383  # lw x7, 764(x2)
-    .word 0x01038393  # addi x7, x7, 16
     .word 0x00239393  # slli x7, x7, 2
     .word 0x002383b3  # add x7, x7, x2
-    .word 0x0a43a383  # lw x7, 164(x7)
+    .word 0x0e43a383  # lw x7, 228(x7)
     .word 0x00734333  # xor x6, x6, x7
     .word 0x0062fab3  # and x21, x5, x6
     .word 0x2fc12283  # lw x5, 764(x2)
@@ -326,17 +324,15 @@ x25519_step:
     .word 0x002282b3  # add x5, x5, x2
     .word 0x0a62a223  # sw x6, 164(x5)
     .word 0x2fc12283  # lw x5, 764(x2)
-    .word 0x01028293  # addi x5, x5, 16
     .word 0x2fc12303  # lw x6, 764(x2)
-    .word 0x01030313  # addi x6, x6, 16
     .word 0x00231313  # slli x6, x6, 2
     .word 0x00230333  # add x6, x6, x2
-    .word 0x0a432303  # lw x6, 164(x6)
+    .word 0x0e432303  # lw x6, 228(x6)
     .word 0x01534333  # xor x6, x6, x21
     .word 0x00229293  # slli x5, x5, 2
     .word 0x002282b3  # add x5, x5, x2
-    .word 0x0a62a223  # sw x6, 164(x5)
-    .word 0xf61ff06f  # jal x0, -160
+    .word 0x0e62a223  # sw x6, 228(x5)
+    .word 0xf6dff06f  # jal x0, -148
     .word 0x44012823  # sw x0, 1104(x2)
     .word 0x01100293  # addi x5, x0, 17
     .word 0x44512a23  # sw x5, 1108(x2)
@@ -344,7 +340,7 @@ x25519_step:
     .word 0x45412283  # lw x5, 1108(x2)
     .word 0x005332b3  # sltu x5, x6, x5
     .word 0x00029463  # bne x5, x0, 8
-    .word 0x7040006f  # jal x0, 1796
+    .word 0x6dc0006f  # jal x0, 1756
     .word 0x30612023  # sw x6, 768(x2)
     .word 0x00130313  # addi x6, x6, 1
     .word 0x44612823  # sw x6, 1104(x2)
@@ -365,7 +361,7 @@ x25519_step:
     .word 0x2e02c283  # lbu x5, 736(x5)
     .word 0x0782f613  # andi x12, x5, 120
     .word 0x30412283  # lw x5, 772(x2)
-    .word 0x2a029e63  # bne x5, x0, 700
+    .word 0x2a029663  # bne x5, x0, 684
     .word 0x30800313  # addi x6, x0, 776
     .word 0x00230333  # add x6, x6, x2
     .word 0x02000393  # addi x7, x0, 32
@@ -465,10 +461,9 @@ x25519_step:
     .word 0x00430313  # addi x6, x6, 4
     .word 0xfedff06f  # jal x0, -20
     .word 0x00000b13  # addi x22, x0, 0
-    .word 0x008b0293  # addi x5, x22, 8
-    .word 0x00229a93  # slli x21, x5, 2
+    .word 0x002b1a93  # slli x21, x22, 2
     .word 0x002a8ab3  # add x21, x21, x2
-    .word 0x348aaa83  # lw x21, 840(x21)
+    .word 0x368aaa83  # lw x21, 872(x21)
     .word 0x02600313  # addi x6, x0, 38
     .word 0x026a8733  # mul x14, x21, x6
     .word 0x02600313  # addi x6, x0, 38
@@ -487,7 +482,7 @@ x25519_step:
     .word 0x38f2a423  # sw x15, 904(x5)
     .word 0x001b0b13  # addi x22, x22, 1
     .word 0x008b3293  # sltiu x5, x22, 8
-    .word 0xfa0294e3  # bne x5, x0, -88
+    .word 0xfa0296e3  # bne x5, x0, -84
     .word 0xfffb0b13  # addi x22, x22, -1
     .word 0x01300293  # addi x5, x0, 19
     .word 0x00199313  # slli x6, x19, 1
@@ -513,12 +508,11 @@ x25519_step:
     .word 0x44412303  # lw x6, 1092(x2)
     .word 0x0062f2b3  # and x5, x5, x6
     .word 0x01528ab3  # add x21, x5, x21
-    .word 0x00750293  # addi x5, x10, 7
     .word 0x44412383  # lw x7, 1092(x2)
     .word 0x007af333  # and x6, x21, x7
-    .word 0x00229293  # slli x5, x5, 2
+    .word 0x00251293  # slli x5, x10, 2
     .word 0x002282b3  # add x5, x5, x2
-    .word 0x0a62a223  # sw x6, 164(x5)
+    .word 0x0c62a023  # sw x6, 192(x5)
     .word 0x01300293  # addi x5, x0, 19
     .word 0x01fad313  # srli x6, x21, 31
     .word 0x02628ab3  # mul x21, x5, x6
@@ -529,20 +523,18 @@ x25519_step:
     .word 0x00251293  # slli x5, x10, 2
     .word 0x002282b3  # add x5, x5, x2
     .word 0x0b32a223  # sw x19, 164(x5)
-    .word 0x00150293  # addi x5, x10, 1
-    .word 0x00150313  # addi x6, x10, 1
-    .word 0x00231313  # slli x6, x6, 2
+    .word 0x00251313  # slli x6, x10, 2
     .word 0x00230333  # add x6, x6, x2
-    .word 0x0a432303  # lw x6, 164(x6)
+    .word 0x0a832303  # lw x6, 168(x6)
     .word 0x0159b3b3  # sltu x7, x19, x21
     .word 0x00730333  # add x6, x6, x7
-    .word 0x00229293  # slli x5, x5, 2
+    .word 0x00251293  # slli x5, x10, 2
     .word 0x002282b3  # add x5, x5, x2
-    .word 0x0a62a223  # sw x6, 164(x5)
-    .word 0x3f40006f  # jal x0, 1012
+    .word 0x0a62a423  # sw x6, 168(x5)
+    .word 0x3dc0006f  # jal x0, 988
     .word 0x30412283  # lw x5, 772(x2)
     .word 0x00100313  # addi x6, x0, 1
-    .word 0x16629a63  # bne x5, x6, 372
+    .word 0x16629463  # bne x5, x6, 360
     .word 0x00000a93  # addi x21, x0, 0
     .word 0x3a800313  # addi x6, x0, 936
     .word 0x00230333  # add x6, x6, x2
@@ -608,12 +600,11 @@ x25519_step:
     .word 0x44412303  # lw x6, 1092(x2)
     .word 0x0062f2b3  # and x5, x5, x6
     .word 0x01528ab3  # add x21, x5, x21
-    .word 0x00750293  # addi x5, x10, 7
     .word 0x44412383  # lw x7, 1092(x2)
     .word 0x007af333  # and x6, x21, x7
-    .word 0x00229293  # slli x5, x5, 2
+    .word 0x00251293  # slli x5, x10, 2
     .word 0x002282b3  # add x5, x5, x2
-    .word 0x0a62a223  # sw x6, 164(x5)
+    .word 0x0c62a023  # sw x6, 192(x5)
     .word 0x01300293  # addi x5, x0, 19
     .word 0x01fad313  # srli x6, x21, 31
     .word 0x02628ab3  # mul x21, x5, x6
@@ -624,17 +615,15 @@ x25519_step:
     .word 0x00251293  # slli x5, x10, 2
     .word 0x002282b3  # add x5, x5, x2
     .word 0x0b32a223  # sw x19, 164(x5)
-    .word 0x00150293  # addi x5, x10, 1
-    .word 0x00150313  # addi x6, x10, 1
-    .word 0x00231313  # slli x6, x6, 2
+    .word 0x00251313  # slli x6, x10, 2
     .word 0x00230333  # add x6, x6, x2
-    .word 0x0a432303  # lw x6, 164(x6)
+    .word 0x0a832303  # lw x6, 168(x6)
     .word 0x0159b3b3  # sltu x7, x19, x21
     .word 0x00730333  # add x6, x6, x7
-    .word 0x00229293  # slli x5, x5, 2
+    .word 0x00251293  # slli x5, x10, 2
     .word 0x002282b3  # add x5, x5, x2
-    .word 0x0a62a223  # sw x6, 164(x5)
-    .word 0x2780006f  # jal x0, 632
+    .word 0x0a62a423  # sw x6, 168(x5)
+    .word 0x26c0006f  # jal x0, 620
     .word 0x30412283  # lw x5, 772(x2)
     .word 0x00200313  # addi x6, x0, 2
     .word 0x0e629663  # bne x5, x6, 236
@@ -695,7 +684,7 @@ x25519_step:
     .word 0x0a62a223  # sw x6, 164(x5)
     .word 0x0159bab3  # sltu x21, x19, x21
     .word 0xfb5ff06f  # jal x0, -76
-    .word 0x1840006f  # jal x0, 388
+    .word 0x1780006f  # jal x0, 376
     .word 0x00000993  # addi x19, x0, 0
     .word 0x3f000313  # addi x6, x0, 1008
     .word 0x00230333  # add x6, x6, x2
@@ -766,12 +755,11 @@ x25519_step:
     .word 0x44412303  # lw x6, 1092(x2)
     .word 0x0062f2b3  # and x5, x5, x6
     .word 0x01528ab3  # add x21, x5, x21
-    .word 0x00750293  # addi x5, x10, 7
     .word 0x44412383  # lw x7, 1092(x2)
     .word 0x007af333  # and x6, x21, x7
-    .word 0x00229293  # slli x5, x5, 2
+    .word 0x00251293  # slli x5, x10, 2
     .word 0x002282b3  # add x5, x5, x2
-    .word 0x0a62a223  # sw x6, 164(x5)
+    .word 0x0c62a023  # sw x6, 192(x5)
     .word 0x01300293  # addi x5, x0, 19
     .word 0x01fad313  # srli x6, x21, 31
     .word 0x02628ab3  # mul x21, x5, x6
@@ -782,17 +770,15 @@ x25519_step:
     .word 0x00251293  # slli x5, x10, 2
     .word 0x002282b3  # add x5, x5, x2
     .word 0x0b32a223  # sw x19, 164(x5)
-    .word 0x00150293  # addi x5, x10, 1
-    .word 0x00150313  # addi x6, x10, 1
-    .word 0x00231313  # slli x6, x6, 2
+    .word 0x00251313  # slli x6, x10, 2
     .word 0x00230333  # add x6, x6, x2
-    .word 0x0a432303  # lw x6, 164(x6)
+    .word 0x0a832303  # lw x6, 168(x6)
     .word 0x0159b3b3  # sltu x7, x19, x21
     .word 0x00730333  # add x6, x6, x7
-    .word 0x00229293  # slli x5, x5, 2
+    .word 0x00251293  # slli x5, x10, 2
     .word 0x002282b3  # add x5, x5, x2
-    .word 0x0a62a223  # sw x6, 164(x5)
-    .word 0x8f1ff06f  # jal x0, -1808
+    .word 0x0a62a423  # sw x6, 168(x5)
+    .word 0x919ff06f  # jal x0, -1768
     .word 0x44012823  # sw x0, 1104(x2)
     .word 0x00400293  # addi x5, x0, 4
     .word 0x44512a23  # sw x5, 1108(x2)
@@ -879,20 +865,19 @@ x25519_step:
     .word 0x45412283  # lw x5, 1108(x2)
     .word 0x005332b3  # sltu x5, x6, x5
     .word 0x00029463  # bne x5, x0, 8
-    .word 0x0380006f  # jal x0, 56
+    .word 0x0340006f  # jal x0, 52
     .word 0x44612023  # sw x6, 1088(x2)
     .word 0x00130313  # addi x6, x6, 1
     .word 0x44612823  # sw x6, 1104(x2)
     .word 0x44012283  # lw x5, 1088(x2)
     .word 0x44012303  # lw x6, 1088(x2)
-    .word 0x00830313  # addi x6, x6, 8
     .word 0x00231313  # slli x6, x6, 2
     .word 0x00230333  # add x6, x6, x2
-    .word 0x0a432303  # lw x6, 164(x6)
+    .word 0x0c432303  # lw x6, 196(x6)
     .word 0x00229293  # slli x5, x5, 2
     .word 0x002282b3  # add x5, x5, x2
     .word 0x0262a223  # sw x6, 36(x5)
-    .word 0xfbdff06f  # jal x0, -68
+    .word 0xfc1ff06f  # jal x0, -64
     # the result
     .word 0x00000513  # addi x10, x0, 0
     # parameter 2: the array, back
