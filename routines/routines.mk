@@ -1,6 +1,6 @@
 # For a Makefile of your own:
 #     ROUTINES_USED = chacha20_xor poly1305_block
-#     include hepurita/routines/routines.mk
+#     include routines/routines.mk
 #     firmware.elf: main.o $(ROUTINES_OBJECTS)
 # and $(ROUTINES_FLAGS) among the flags of what includes their headers. ROUTINES_CODE = small takes the code of fewer words,
 # ROUTINES_C_USED = sha sha_256 adds these files of routines/c, ROUTINES_BUILD is the folder for the objects, ROUTINES_AS what
