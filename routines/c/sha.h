@@ -5,9 +5,10 @@
        sha_update(&hash, bytes, count);     as often as there is more
        sha_finish(&hash, digest);
 
-   Link sha.c with the file of the kind and the routine that it calls: sha_1.c with sha1_block, sha_256.c with sha256_block, sha_512.c
-   with sha512_block. Messages are secret, their lengths and the lengths of the parts are public. sha_finish wipes what the struct has of it. A part
-   that begins at a multiple of 4, where no bytes are left from the part before, takes the fewest steps. */
+   Link sha.c with the file of the kind and the routine that it calls: sha_1.c with sha1_block, sha_256.c with sha256_block,
+   sha_512.c with sha512_block. Messages are secret, their lengths and the lengths of the parts are public. sha_finish wipes what
+   the struct has of it. A part that begins at a multiple of 4, where no bytes are left from the part before, takes the fewest
+   steps. */
 #ifndef HEPURITA_SHA_H
 #define HEPURITA_SHA_H
 #include <stdint.h>
