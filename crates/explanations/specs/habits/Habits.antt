@@ -1,24 +1,35 @@
 -- Habits of C: at which tokens a source has one, and what to write instead.
-use Rattle.std.specs.Prelude.{ℕ, ◌<◌, ◌==◌, Bool, ◌&&◌, ◌||◌, List, [], ◌∷◌, ◌++◌, length, codes, Option, None}
-use Rattle.std.specs.List.{find, list_any, slice_split}
+use Rattle.std.specs.Prelude.{ℕ, ◌<◌, ◌==◌, Bool, true, false, List, [], ◌∷◌, ◌++◌, length, codes, Option, None}
+use Rattle.std.specs.List.{find, list_all, list_any, slice_split}
 use Rattle.std.specs.Option.{option_map}
 use Rattle.std.specs.Str.{bytes_eq}
 use Rattle.syntax.specs.Lexeme.{Lexeme}
 use Rattle.syntax.specs.Limits.{source_limit}
 use Rattle.syntax.specs.Tokens.{TokensEnding, Lexes}
 use Rattle.explanations.specs.habits.Spots.{Spot, spot_around, statement_start}
+use Rattle.explanations.specs.declared.habits.spots.Region.{Region}
+use Rattle.explanations.specs.declared.habits.spots.Region.TheVariants.{Outside, Body, Brackets}
 use Rattle.explanations.specs.declared.habits.advice.TheConstants.{COMMENT, STEP, COMPOUND, COUNTED, WHILE, SWITCH}
 use Rattle.explanations.specs.declared.habits.advice.TheConstants.{EARLY_RETURN, NO_RESULT, LEAVE, JUMP, FIELDS, WIDE}
 use Rattle.explanations.specs.declared.habits.advice.TheConstants.{QUALIFIER, TYPE, NO_PARAMETERS, POINTER, GLOBAL}
-use Rattle.explanations.specs.declared.habits.advice.TheConstants.{LENGTH, FIRST_VALUE, ONE_VARIABLE, LABEL, KEYWORD}
+use Rattle.explanations.specs.declared.habits.advice.TheConstants.{LENGTH, IMPORT, MUTABLE_WORD, FIRST_VALUE}
+use Rattle.explanations.specs.declared.habits.advice.TheConstants.{ONE_VARIABLE, LABEL, KEYWORD}
 use Rattle.explanations.specs.declared.habits.advice.TheConstants.{CONVERSION, UNSIGNED_SHIFT, ROTATION, ROTATED}
 use Rattle.explanations.specs.declared.habits.advice.TheConstants.{CALL, COMPARISON, BRACES, EQUALS, SEMICOLON}
 
--- What stands where a habit is refused, each one of some words or, where there are none, anything: the part of the
--- program, the first token of the statement, the second token before the place, the one before it, the one there and
--- the next. And what to write instead.
+-- what stands at a place, or around it: the part of the program is this one; or one of some words is the first token of
+-- the statement, the second token before the place, the one before it, the one there, or the next
+pub data Clue : Type 0 where
+  part : Region → Clue
+  statement_begins : List ℕ → Clue
+  two_before : List ℕ → Clue
+  before : List ℕ → Clue
+  here : List ℕ → Clue
+  behind : List ℕ → Clue
+
+-- what stands where a habit is refused, and what to write instead
 abbrev pub Habit : Type 0
-Habit = List ℕ × List ℕ × List ℕ × List ℕ × List ℕ × List ℕ × List ℕ
+Habit = List Clue × List ℕ
 
 abbrev pub statement_ends : List ℕ
 statement_ends = codes "; { }"
@@ -55,125 +66,142 @@ comparisons = codes "== != < <= > >="
 unfoldable pub habits : List Habit
 habits =
     -- `/* c */ y = 1;`
-    ([], [], [], [], codes "/", codes "*", COMMENT.now) ∷
+    (here (codes "/") ∷ behind (codes "*") ∷ [], COMMENT.now) ∷
     -- `y = x /* c */;`
-    ([], [], [], codes "/", codes "*", [], COMMENT.now) ∷
+    (before (codes "/") ∷ here (codes "*") ∷ [], COMMENT.now) ∷
     -- `y++;`
-    ([], [], [], [], codes "+", codes "+", STEP.now) ∷
+    (here (codes "+") ∷ behind (codes "+") ∷ [], STEP.now) ∷
     -- `y--;`, `--y;`
-    ([], [], [], [], codes "-", codes "-", STEP.now) ∷
+    (here (codes "-") ∷ behind (codes "-") ∷ [], STEP.now) ∷
     -- `z = y++;`
-    ([], [], [], codes "+", codes "+", [], STEP.now) ∷
+    (before (codes "+") ∷ here (codes "+") ∷ [], STEP.now) ∷
     -- `z = y--;`
-    ([], [], codes "-", codes "-", [], [], STEP.now) ∷
+    (two_before (codes "-") ∷ before (codes "-") ∷ [], STEP.now) ∷
     -- `y += 1;`
-    ([], [], [], [], operators, codes "=", COMPOUND.now) ∷
+    (here operators ∷ behind (codes "=") ∷ [], COMPOUND.now) ∷
     -- `for (int i = 0; ..`
-    ([], [], codes "for", codes "(", [], [], COUNTED.now) ∷
+    (two_before (codes "for") ∷ before (codes "(") ∷ [], COUNTED.now) ∷
     -- `for (uint32 i = 0; ..`
-    (codes "brackets", codes "for", [], [], codes "=", [], COUNTED.now) ∷
+    (part Brackets ∷ statement_begins (codes "for") ∷ here (codes "=") ∷ [], COUNTED.now) ∷
     -- `while (c) { .. }`, `do { .. }`
-    ([], codes "while do", [], [], [], [], WHILE.now) ∷
+    (statement_begins (codes "while do") ∷ [], WHILE.now) ∷
     -- `switch (y) { .. }`
-    ([], codes "switch", [], [], [], [], SWITCH.now) ∷
+    (statement_begins (codes "switch") ∷ [], SWITCH.now) ∷
     -- `if (c) { return y; }`, `if (c) return y;`
-    (codes "body", [], [], codes "; { } ) else", codes "return", [], EARLY_RETURN.now) ∷
+    (part Body ∷ before (codes "; { } ) else") ∷ here (codes "return") ∷ [], EARLY_RETURN.now) ∷
     -- `return;`
-    ([], [], [], codes "return", codes ";", [], NO_RESULT.now) ∷
+    (before (codes "return") ∷ here (codes ";") ∷ [], NO_RESULT.now) ∷
     -- `break;`
-    ([], codes "break continue", [], codes "break continue", [], [], LEAVE.now) ∷
+    (statement_begins (codes "break continue") ∷ before (codes "break continue") ∷ [], LEAVE.now) ∷
     -- `goto out;`
-    ([], codes "goto", [], codes "goto", [], [], JUMP.now) ∷
+    (statement_begins (codes "goto") ∷ before (codes "goto") ∷ [], JUMP.now) ∷
     -- `struct s { .. }`
-    ([], [], [], [], declarers, [], FIELDS.now) ∷
+    (here declarers ∷ [], FIELDS.now) ∷
     -- `struct s t;` in a body
-    ([], declarers, [], declarers, [], [], FIELDS.now) ∷
+    (statement_begins declarers ∷ before declarers ∷ [], FIELDS.now) ∷
+    -- `import words;`
+    (part Outside ∷ here (codes "import include using use") ∷ [], IMPORT.now) ∷
     -- `secret uint64 x`
-    ([], [], [], [], wide_types, [], WIDE.now) ∷
+    (here wide_types ∷ [], WIDE.now) ∷
     -- `uint64 x = 1;` in a body
-    ([], wide_types, [], wide_types, [], [], WIDE.now) ∷
+    (statement_begins wide_types ∷ before wide_types ∷ [], WIDE.now) ∷
     -- `secret const uint32 x`
-    ([], [], [], [], qualifiers, [], QUALIFIER.now) ∷
+    (here qualifiers ∷ [], QUALIFIER.now) ∷
     -- `const uint32 x = 1;` in a body
-    ([], qualifiers, [], qualifiers, [], [], QUALIFIER.now) ∷
+    (statement_begins qualifiers ∷ before qualifiers ∷ [], QUALIFIER.now) ∷
     -- `secret int x`
-    ([], [], [], [], c_types, [], TYPE.now) ∷
+    (here c_types ∷ [], TYPE.now) ∷
     -- `int x = 1;` in a body
-    ([], c_types, [], c_types, [], [], TYPE.now) ∷
+    (statement_begins c_types ∷ before c_types ∷ [], TYPE.now) ∷
     -- `(int)x`
-    ([], [], c_types, codes ")", [], [], CONVERSION.now) ∷
+    (two_before c_types ∷ before (codes ")") ∷ [], CONVERSION.now) ∷
     -- `(uint32)x`
-    ([], [], codes "(", types, codes ")", [], CONVERSION.now) ∷
+    (two_before (codes "(") ∷ before types ∷ here (codes ")") ∷ [], CONVERSION.now) ∷
     -- `void f(void)`
-    ([], [], [], codes "(", codes "void", [], NO_PARAMETERS.now) ∷
+    (before (codes "(") ∷ here (codes "void") ∷ [], NO_PARAMETERS.now) ∷
     -- `secret uint32 *p`
-    ([], [], [], codes "bool uint8 uint16 uint32 void", codes "*", [], POINTER.now) ∷
+    (before (codes "bool uint8 uint16 uint32 void") ∷ here (codes "*") ∷ [], POINTER.now) ∷
     -- `y = *p;`, `f(&x);`
-    ([], [], [], codes "; { } = ( , return", codes "* &", [], POINTER.now) ∷
+    (before (codes "; { } = ( , return") ∷ here (codes "* &") ∷ [], POINTER.now) ∷
     -- `p->x`
-    ([], [], [], codes "-", codes ">", [], POINTER.now) ∷
+    (before (codes "-") ∷ here (codes ">") ∷ [], POINTER.now) ∷
     -- `public uint32 k = 3;`
-    (codes "outside", [], types, [], codes "= ; [ ,", [], GLOBAL.now) ∷
+    (part Outside ∷ two_before types ∷ here (codes "= ; [ ,") ∷ [], GLOBAL.now) ∷
     -- `public uint32[4] k = ..`, `public uint32[4] f()`
-    (codes "outside", [], [], types, codes "[", [], GLOBAL.now) ∷
+    (part Outside ∷ before types ∷ here (codes "[") ∷ [], GLOBAL.now) ∷
     -- `public mut uint32 k = 3;`
-    (codes "outside", [], [], codes "public secret", codes "mut", [], GLOBAL.now) ∷
+    (part Outside ∷ before (codes "public secret") ∷ here (codes "mut") ∷ [], GLOBAL.now) ∷
     -- `secret uint32 a[4]`
-    ([], [], types, [], codes "[", [], LENGTH.now) ∷
+    (two_before types ∷ here (codes "[") ∷ [], LENGTH.now) ∷
+    -- `void f(secret mut uint32 x)`
+    (part Brackets ∷ two_before (codes "mut") ∷ before types ∷ [], MUTABLE_WORD.now) ∷
     -- `secret uint32 x;`
-    (codes "body", [], types, [], codes ";", [], FIRST_VALUE.now) ∷
+    (part Body ∷ two_before types ∷ here (codes ";") ∷ [], FIRST_VALUE.now) ∷
     -- `secret uint32 x, y;`
-    (codes "body", [], types, [], codes ",", [], ONE_VARIABLE.now) ∷
+    (part Body ∷ two_before types ∷ here (codes ",") ∷ [], ONE_VARIABLE.now) ∷
+    -- `secret uint32 x = 1, y = 2;`
+    (part Body ∷ statement_begins (codes "public secret") ∷ here (codes ",") ∷ [], ONE_VARIABLE.now) ∷
     -- `uint32 x = 1;`, `void f(uint32 x)`
-    ([], [], [], codes " ; { } ( , export", codes "mut bool uint8 uint16 uint32", [], LABEL.now) ∷
+    (before (codes " ; { } ( , export") ∷ here (codes "mut bool uint8 uint16 uint32") ∷ [], LABEL.now) ∷
     -- `secret uint32 to = 1;`
-    ([], [], [], types, keywords, [], KEYWORD.now) ∷
+    (before types ∷ here keywords ∷ [], KEYWORD.now) ∷
     -- `to = 1;`
-    ([], [], [], statement_ends, codes "from to select", [], KEYWORD.now) ∷
+    (before statement_ends ∷ here (codes "from to select") ∷ [], KEYWORD.now) ∷
     -- `x >>> 7`
-    ([], [], [], codes ">>", codes ">", [], UNSIGNED_SHIFT.now) ∷
+    (before (codes ">>") ∷ here (codes ">") ∷ [], UNSIGNED_SHIFT.now) ∷
     -- `x <<< n`
-    ([], [], [], codes "<<<", [], [], ROTATION.now) ∷
+    (before (codes "<<<") ∷ [], ROTATION.now) ∷
     -- `x <<< 7 + y`
-    ([], [], codes "<<<", [], codes "+ - * / %", [], ROTATED.now) ∷
+    (two_before (codes "<<<") ∷ here (codes "+ - * / %") ∷ [], ROTATED.now) ∷
     -- `if (c) y = x;`, `for (..) y = x;`
-    (codes "body", codes "if else for", [], codes ")", [], [], BRACES.now) ∷
+    (part Body ∷ statement_begins (codes "if else for") ∷ before (codes ")") ∷ [], BRACES.now) ∷
     -- `else y = x;`
-    ([], [], [], codes "else", [], [], BRACES.now) ∷
+    (before (codes "else") ∷ [], BRACES.now) ∷
     -- `y = 1 + f(x);`, `return f(x);`
-    ([], [], before_operands, [], codes "(", [], CALL.now) ∷
+    (two_before before_operands ∷ here (codes "(") ∷ [], CALL.now) ∷
     -- `y = f(x) + 1;`
-    (codes "body", [], [], codes ")", operators, [], CALL.now) ∷
+    (part Body ∷ before (codes ")") ∷ here operators ∷ [], CALL.now) ∷
     -- `x < y < z`
-    ([], [], comparisons, [], comparisons, [], COMPARISON.now) ∷
+    (two_before comparisons ∷ here comparisons ∷ [], COMPARISON.now) ∷
     -- `c = f(x) == 1;`
-    ([], [], [], codes ")", comparisons, [], COMPARISON.now) ∷
+    (before (codes ")") ∷ here comparisons ∷ [], COMPARISON.now) ∷
     -- `x = y = 1;`
-    (codes "body", [], codes "=", [], codes "=", [], EQUALS.now) ∷
+    (part Body ∷ two_before (codes "=") ∷ here (codes "=") ∷ [], EQUALS.now) ∷
     -- `if (x = 1)`
-    (codes "brackets", codes "if else", codes "( && || !", [], codes "=", [], EQUALS.now) ∷
+    (
+      part Brackets ∷ statement_begins (codes "if else") ∷ two_before (codes "( && || !") ∷ here (codes "=") ∷ [],
+      EQUALS.now,
+    ) ∷
     -- `if (a[0] = 1)`
-    (codes "brackets", codes "if else", [], codes "]", codes "=", [], EQUALS.now) ∷
+    (part Brackets ∷ statement_begins (codes "if else") ∷ before (codes "]") ∷ here (codes "=") ∷ [], EQUALS.now) ∷
     -- `};`
-    ([], [], [], statement_ends, codes ";", [], SEMICOLON.now) ∷
+    (before statement_ends ∷ here (codes ";") ∷ [], SEMICOLON.now) ∷
     []
 
 -- words have a blank between them
 abbrev pub is_one_of : List ℕ → List ℕ → Bool
 is_one_of words text = list_any (λ word. bytes_eq word text) (slice_split (λ byte. byte == 32) words)
 
-abbrev pub meets : List ℕ → List ℕ → Bool
-meets words text = (length words == 0) || is_one_of words text
+abbrev pub is_part : Region → Region → Bool
+is_part Outside Outside = true
+is_part Body Body = true
+is_part Brackets Brackets = true
+is_part one other = false
+
+abbrev pub holds : Spot → Clue → Bool
+holds s (part region) = is_part region s.region
+holds s (statement_begins words) = is_one_of words (statement_start s)
+holds s (two_before words) = is_one_of words s.second
+holds s (before words) = is_one_of words s.before
+holds s (here words) = is_one_of words s.here
+holds s (behind words) = is_one_of words s.next
 
 abbrev pub fits : Spot → Habit → Bool
-fits s habit =
-    meets habit.0 s.region
-    && (meets habit.1 (statement_start s)
-    && (meets habit.2 s.second && (meets habit.3 s.before && (meets habit.4 s.here && meets habit.5 s.next))))
+fits s habit = list_all (holds s) habit.0
 
 -- what to write instead of the first habit that fits
 abbrev pub advice_for : Spot → Option (List ℕ)
-advice_for s = option_map (λ habit. habit.6) (find (fits s) habits)
+advice_for s = option_map (λ habit. habit.1) (find (fits s) habits)
 
 -- the tokens are those of the source up to its end or to the first bad character or number; one that is too long has
 -- none

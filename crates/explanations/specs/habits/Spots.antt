@@ -3,6 +3,8 @@ use Rattle.std.specs.Prelude.{ℕ, nat_lt, nat_eq, Bool, ◌&&◌, ◌||◌, if�
 use Rattle.std.specs.List.{filter, fold}
 use Rattle.std.specs.Str.{bytes_eq}
 use Rattle.syntax.specs.Lexeme.{Lexeme}
+use Rattle.explanations.specs.declared.habits.spots.Region.{Region}
+use Rattle.explanations.specs.declared.habits.spots.Region.TheVariants.{Outside, Body, Brackets}
 use Rattle.explanations.specs.declared.habits.spots.Spot.{Spot as CodeSpot}
 
 pub record Spot : Type 0 where
@@ -12,7 +14,7 @@ pub record Spot : Type 0 where
   pub before : List ℕ
   pub here : List ℕ
   pub next : List ℕ
-  pub region : List ℕ
+  pub region : Region
 
 abbrev pub spot_of : CodeSpot → Spot
 spot_of s = record {
@@ -21,7 +23,7 @@ spot_of s = record {
   before = s.before.now;
   here = s.here.now;
   next = s.next.now;
-  region = s.region.now;
+  region = s.region;
 }
 
 -- a statement ends with this token, or begins after it, or after nothing
@@ -37,12 +39,12 @@ abbrev pub count_before : ℕ → List ℕ → List Lexeme → ℕ
 count_before at word tokens = length (filter (is_before at word) tokens)
 
 -- a place is in round brackets, or in a body, where more are open before it than closed; or outside procedures
-abbrev pub region : ℕ → List Lexeme → List ℕ
-region at tokens =
+abbrev pub region_at : ℕ → List Lexeme → Region
+region_at at tokens =
     if nat_eq (count_before at (codes "(") tokens) (count_before at (codes ")") tokens)
     then (if nat_eq (count_before at (codes "{") tokens) (count_before at (codes "}") tokens)
-    then codes "outside" else codes "body")
-    else codes "brackets"
+    then Outside else Body)
+    else Brackets
 
 -- what a token adds, the next one in the order of the source: tokens before the place move on, and of the others the
 -- first stands there and the second is next
@@ -81,13 +83,13 @@ reached s text =
 abbrev pub after_token : ℕ → Spot → Lexeme → Spot
 after_token at s t = if nat_lt t.place.offset at then passed s t.text else reached s t.text
 
-abbrev pub nowhere : List ℕ → Spot
+abbrev pub nowhere : Region → Spot
 nowhere where_it_is =
     record { start = []; second = []; before = []; here = []; next = []; region = where_it_is }
 
 -- the tokens around the place behind so many bytes
 abbrev pub spot_around : ℕ → List Lexeme → Spot
-spot_around at tokens = fold (after_token at) (nowhere (region at tokens)) tokens
+spot_around at tokens = fold (after_token at) (nowhere (region_at at tokens)) tokens
 
 -- the first token of the statement that the place is in; a statement may begin there
 abbrev pub statement_start : Spot → List ℕ

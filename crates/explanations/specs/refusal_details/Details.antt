@@ -1,5 +1,5 @@
 -- What is said of a refusal beside its rule: lines, each with its end, or nothing.
-use Rattle.std.specs.Prelude.{◌≡◌, ℕ, nat_eq, Bool, if◌then◌else◌, List, [], ◌∷◌, ◌++◌, take, drop, length}
+use Rattle.std.specs.Prelude.{◌≡◌, ℕ, ◌==◌, nat_eq, Bool, ◌||◌, if◌then◌else◌, List, [], ◌∷◌, ◌++◌, take, drop, length}
 use Rattle.std.specs.Prelude.{nat_lt, codes, Option, None, Some}
 use Rattle.std.specs.List.{starts_with}
 use Rattle.explanations.specs.refusal_details.ExpectedLines.{SaysUnexpected}
@@ -9,14 +9,43 @@ use Rattle.explanations.specs.refusal_details.WhyLines.{why_lines}
 use Rattle.explanations.specs.call_places.CallPlaces.{call_places, procedure_at}
 use Rattle.language.specs.declared.why.Why.TheVariants as why
 
--- X1: a byte order mark is named, as EF BB BF
+-- X1: a byte order mark is named, as EF BB BF; and of a character of C it is said what to write instead
 abbrev pub begins_with_mark : List ℕ → Bool
 begins_with_mark bytes = starts_with nat_eq bytes (0xEF ∷ 0xBB ∷ 0xBF ∷ [])
+
+abbrev pub no_select : List ℕ
+no_select = codes "  there is no `c ? x : y`: write `select(c, x, y)` (docs/COOKBOOK.md)\n"
+
+abbrev pub no_labels : List ℕ
+no_labels =
+    codes "  there are no labels, and a type stands before its name: `secret uint32 x = 1;` (docs/COOKBOOK.md)\n"
+
+abbrev pub no_fields : List ℕ
+no_fields = codes "  there are no fields and no fractions: use a variable for each field (docs/COOKBOOK.md)\n"
+
+abbrev pub no_texts : List ℕ
+no_texts = codes "  there are no texts and no characters: write numbers, as 97 for `a` (docs/COOKBOOK.md)\n"
+
+abbrev pub no_preprocessor : List ℕ
+no_preprocessor = codes "  there is no preprocessor: write numbers out, and give other files by `--with LIB`\n"
+
+-- by its first byte: `?`, `:`, `.`, `"`, `'` and `#` in ASCII
+abbrev pub habit_of : ℕ → List ℕ
+habit_of byte =
+    if byte == 0x3F then no_select else
+    if byte == 0x3A then no_labels else
+    if byte == 0x2E then no_fields else
+    if byte == 0x22 || byte == 0x27 then no_texts else
+    if byte == 0x23 then no_preprocessor else []
+
+abbrev pub habit_line : List ℕ → List ℕ
+habit_line [] = []
+habit_line (byte ∷ bytes) = habit_of byte
 
 abbrev pub character_line : List ℕ → List ℕ
 character_line bytes =
     if begins_with_mark bytes
-    then codes "  this is a byte order mark, which cannot be seen: save the file without it\n" else []
+    then codes "  this is a byte order mark, which cannot be seen: save the file without it\n" else habit_line bytes
 
 -- I1, I2: where the procedure is called that the place is in; of more than eight places the first eight
 abbrev pub most_others : ℕ

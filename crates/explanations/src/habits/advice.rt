@@ -28,6 +28,9 @@ pub const JUMP: &str = "there is no `goto`: write an `if` or a `for`";
 pub const FIELDS: &str =
     "there are no structs and no other types of your own: use a variable or an array for each field";
 
+pub const IMPORT: &str =
+    "procedures of another file are given on the command line: `factc check FILE --with LIB`";
+
 pub const WIDE: &str =
     "a number has at most 32 bits: use two `uint32`, the lower word and the upper one";
 
@@ -46,6 +49,9 @@ pub const GLOBAL: &str =
     "no variable stands outside procedures, and no result is an array: declare it in a body, and pass it on";
 
 pub const LENGTH: &str = "the length stands behind the type: write `secret uint32[4] a`";
+
+pub const MUTABLE_WORD: &str =
+    "only an array parameter may be `mut`: return the word, or pass an array of one, `secret mut uint32[1] a`";
 
 pub const FIRST_VALUE: &str = "a word has a first value: write `secret mut uint32 x = 0;`";
 

@@ -4,9 +4,20 @@ ghost use Rattle.std.specs.Prelude.{◌≡◌, length};
 ghost use Rattle.std.specs.List.{filter, fold};
 ghost use Rattle.syntax.specs.Lexeme.{lexeme, lexemes};
 ghost use Rattle.explanations.specs.habits.Spots.{after_token, count_before, ends_statement, is_before, nowhere};
-ghost use Rattle.explanations.specs.habits.Spots.{region, spot_around, spot_of, statement_start};
+ghost use Rattle.explanations.specs.habits.Spots.{region_at, spot_around, spot_of, statement_start};
 
 use syntax::Token;
+
+/// A part of a program.
+#[derive(Clone, Copy, Debug, PartialEq, Eq)]
+pub(crate) enum Region {
+    /// Outside procedures.
+    Outside,
+    /// In the body of one, and not in round brackets.
+    Body,
+    /// In round brackets.
+    Brackets,
+}
 
 /// The spellings of the tokens around a place; nothing where there is none.
 #[derive(Clone, Copy)]
@@ -17,7 +28,7 @@ pub(crate) struct Spot<'a> {
     pub before: &'a str,
     pub here: &'a str,
     pub next: &'a str,
-    pub region: &'static str,
+    pub region: Region,
 }
 
 /// Whether a statement ends with a token, or begins after it.
@@ -38,15 +49,15 @@ fn count_before(tokens: &[Token<'_>], at: u32, word: &str) -> usize
 }
 
 /// In which part of a program a place is.
-fn region(tokens: &[Token<'_>], at: u32) -> &'static str
-    ensures { result.now ≡ region at (lexemes tokens.now) }
+fn region_at(tokens: &[Token<'_>], at: u32) -> Region
+    ensures { result ≡ region_at at (lexemes tokens.now) }
 {
     if count_before(tokens, at, "(") != count_before(tokens, at, ")") {
-        "brackets"
+        Region::Brackets
     } else if count_before(tokens, at, "{") == count_before(tokens, at, "}") {
-        "outside"
+        Region::Outside
     } else {
-        "body"
+        Region::Body
     }
 }
 
@@ -100,7 +111,7 @@ pub(crate) fn spot_around<'a>(tokens: &[Token<'a>], at: u32) -> Spot<'a>
         before: "",
         here: "",
         next: "",
-        region: region(tokens, at),
+        region: region_at(tokens, at),
     };
     for token in tokens {
         spot = spot.after_token(token, at);

@@ -3,29 +3,46 @@
 ghost use Rattle.std.specs.Prelude.{◌≡◌, map};
 ghost use Rattle.std.specs.List.{find, list_any, slice_split};
 ghost use Rattle.std.specs.Option.{option_map};
-ghost use Rattle.explanations.specs.habits.Habits.{advice_for, fits, habits, is_one_of, meets};
+ghost use Rattle.explanations.specs.habits.Habits.{advice_for, fits, habits, is_one_of};
+ghost use Rattle.explanations.specs.private.HabitRows.{is_inside, meets, shown};
 ghost use Rattle.explanations.specs.habits.Spots.{spot_of};
 
 use crate::habits::advice::{
     BRACES, CALL, COMMENT, COMPARISON, COMPOUND, CONVERSION, COUNTED, EARLY_RETURN, EQUALS, FIELDS,
-    FIRST_VALUE, GLOBAL, JUMP, KEYWORD, LABEL, LEAVE, LENGTH, NO_PARAMETERS, NO_RESULT,
-    ONE_VARIABLE, POINTER, QUALIFIER, ROTATED, ROTATION, SEMICOLON, STEP, SWITCH, TYPE,
+    FIRST_VALUE, GLOBAL, IMPORT, JUMP, KEYWORD, LABEL, LEAVE, LENGTH, MUTABLE_WORD, NO_PARAMETERS,
+    NO_RESULT, ONE_VARIABLE, POINTER, QUALIFIER, ROTATED, ROTATION, SEMICOLON, STEP, SWITCH, TYPE,
     UNSIGNED_SHIFT, WHILE, WIDE,
 };
-use crate::habits::spots::Spot;
+use crate::habits::spots::{Region, Spot};
 
-/// What stands where a habit of C is refused, each one of some words or, where there are none, anything: the part of
-/// the program, the first token of the statement, the second token before the place, the one before it, the one there
-/// and the next. And what to write instead.
-type Habit = (
-    &'static str,
-    &'static str,
-    &'static str,
-    &'static str,
-    &'static str,
-    &'static str,
-    &'static str,
-);
+/// A habit of C: what stands where it is refused, and what to write instead. A text is some words with a blank between
+/// each two, of which one stands there; where it is empty, anything may.
+#[derive(Clone, Copy)]
+struct Habit {
+    /// The part of the program.
+    region: Option<Region>,
+    /// The first token of the statement.
+    start: &'static str,
+    /// The second token before the place, and the one before it.
+    second: &'static str,
+    before: &'static str,
+    /// The token at the place, and the next.
+    here: &'static str,
+    next: &'static str,
+    /// What to write instead.
+    advice: &'static str,
+}
+
+/// What is left open.
+const ANYWHERE: Habit = Habit {
+    region: None,
+    start: "",
+    second: "",
+    before: "",
+    here: "",
+    next: "",
+    advice: "",
+};
 
 const STATEMENT_ENDS: &str = "; { }";
 
@@ -50,79 +67,345 @@ const BEFORE_OPERANDS: &str =
 
 const COMPARISONS: &str = "== != < <= > >=";
 
-const HABITS: [Habit; 51] = [
-    ("", "", "", "", "/", "*", COMMENT),
-    ("", "", "", "/", "*", "", COMMENT),
-    ("", "", "", "", "+", "+", STEP),
-    ("", "", "", "", "-", "-", STEP),
-    ("", "", "", "+", "+", "", STEP),
-    ("", "", "-", "-", "", "", STEP),
-    ("", "", "", "", OPERATORS, "=", COMPOUND),
-    ("", "", "for", "(", "", "", COUNTED),
-    ("brackets", "for", "", "", "=", "", COUNTED),
-    ("", "while do", "", "", "", "", WHILE),
-    ("", "switch", "", "", "", "", SWITCH),
-    ("body", "", "", "; { } ) else", "return", "", EARLY_RETURN),
-    ("", "", "", "return", ";", "", NO_RESULT),
-    ("", "break continue", "", "break continue", "", "", LEAVE),
-    ("", "goto", "", "goto", "", "", JUMP),
-    ("", "", "", "", DECLARERS, "", FIELDS),
-    ("", DECLARERS, "", DECLARERS, "", "", FIELDS),
-    ("", "", "", "", WIDE_TYPES, "", WIDE),
-    ("", WIDE_TYPES, "", WIDE_TYPES, "", "", WIDE),
-    ("", "", "", "", QUALIFIERS, "", QUALIFIER),
-    ("", QUALIFIERS, "", QUALIFIERS, "", "", QUALIFIER),
-    ("", "", "", "", C_TYPES, "", TYPE),
-    ("", C_TYPES, "", C_TYPES, "", "", TYPE),
-    ("", "", C_TYPES, ")", "", "", CONVERSION),
-    ("", "", "(", TYPES, ")", "", CONVERSION),
-    ("", "", "", "(", "void", "", NO_PARAMETERS),
-    (
-        "",
-        "",
-        "",
-        "bool uint8 uint16 uint32 void",
-        "*",
-        "",
-        POINTER,
-    ),
-    ("", "", "", "; { } = ( , return", "* &", "", POINTER),
-    ("", "", "", "-", ">", "", POINTER),
-    ("outside", "", TYPES, "", "= ; [ ,", "", GLOBAL),
-    ("outside", "", "", TYPES, "[", "", GLOBAL),
-    ("outside", "", "", "public secret", "mut", "", GLOBAL),
-    ("", "", TYPES, "", "[", "", LENGTH),
-    ("body", "", TYPES, "", ";", "", FIRST_VALUE),
-    ("body", "", TYPES, "", ",", "", ONE_VARIABLE),
-    (
-        "",
-        "",
-        "",
-        " ; { } ( , export",
-        "mut bool uint8 uint16 uint32",
-        "",
-        LABEL,
-    ),
-    ("", "", "", TYPES, KEYWORDS, "", KEYWORD),
-    ("", "", "", STATEMENT_ENDS, "from to select", "", KEYWORD),
-    ("", "", "", ">>", ">", "", UNSIGNED_SHIFT),
-    ("", "", "", "<<<", "", "", ROTATION),
-    ("", "", "<<<", "", "+ - * / %", "", ROTATED),
-    ("body", "if else for", "", ")", "", "", BRACES),
-    ("", "", "", "else", "", "", BRACES),
-    ("", "", BEFORE_OPERANDS, "", "(", "", CALL),
-    ("body", "", "", ")", OPERATORS, "", CALL),
-    ("", "", COMPARISONS, "", COMPARISONS, "", COMPARISON),
-    ("", "", "", ")", COMPARISONS, "", COMPARISON),
-    ("body", "", "=", "", "=", "", EQUALS),
-    ("brackets", "if else", "( && || !", "", "=", "", EQUALS),
-    ("brackets", "if else", "", "]", "=", "", EQUALS),
-    ("", "", "", STATEMENT_ENDS, ";", "", SEMICOLON),
+const HABITS: [Habit; 54] = [
+    Habit {
+        here: "/",
+        next: "*",
+        advice: COMMENT,
+        ..ANYWHERE
+    },
+    Habit {
+        before: "/",
+        here: "*",
+        advice: COMMENT,
+        ..ANYWHERE
+    },
+    Habit {
+        here: "+",
+        next: "+",
+        advice: STEP,
+        ..ANYWHERE
+    },
+    Habit {
+        here: "-",
+        next: "-",
+        advice: STEP,
+        ..ANYWHERE
+    },
+    Habit {
+        before: "+",
+        here: "+",
+        advice: STEP,
+        ..ANYWHERE
+    },
+    Habit {
+        second: "-",
+        before: "-",
+        advice: STEP,
+        ..ANYWHERE
+    },
+    Habit {
+        here: OPERATORS,
+        next: "=",
+        advice: COMPOUND,
+        ..ANYWHERE
+    },
+    Habit {
+        second: "for",
+        before: "(",
+        advice: COUNTED,
+        ..ANYWHERE
+    },
+    Habit {
+        region: Some(Region::Brackets),
+        start: "for",
+        here: "=",
+        advice: COUNTED,
+        ..ANYWHERE
+    },
+    Habit {
+        start: "while do",
+        advice: WHILE,
+        ..ANYWHERE
+    },
+    Habit {
+        start: "switch",
+        advice: SWITCH,
+        ..ANYWHERE
+    },
+    Habit {
+        region: Some(Region::Body),
+        before: "; { } ) else",
+        here: "return",
+        advice: EARLY_RETURN,
+        ..ANYWHERE
+    },
+    Habit {
+        before: "return",
+        here: ";",
+        advice: NO_RESULT,
+        ..ANYWHERE
+    },
+    Habit {
+        start: "break continue",
+        before: "break continue",
+        advice: LEAVE,
+        ..ANYWHERE
+    },
+    Habit {
+        start: "goto",
+        before: "goto",
+        advice: JUMP,
+        ..ANYWHERE
+    },
+    Habit {
+        here: DECLARERS,
+        advice: FIELDS,
+        ..ANYWHERE
+    },
+    Habit {
+        start: DECLARERS,
+        before: DECLARERS,
+        advice: FIELDS,
+        ..ANYWHERE
+    },
+    Habit {
+        region: Some(Region::Outside),
+        here: "import include using use",
+        advice: IMPORT,
+        ..ANYWHERE
+    },
+    Habit {
+        here: WIDE_TYPES,
+        advice: WIDE,
+        ..ANYWHERE
+    },
+    Habit {
+        start: WIDE_TYPES,
+        before: WIDE_TYPES,
+        advice: WIDE,
+        ..ANYWHERE
+    },
+    Habit {
+        here: QUALIFIERS,
+        advice: QUALIFIER,
+        ..ANYWHERE
+    },
+    Habit {
+        start: QUALIFIERS,
+        before: QUALIFIERS,
+        advice: QUALIFIER,
+        ..ANYWHERE
+    },
+    Habit {
+        here: C_TYPES,
+        advice: TYPE,
+        ..ANYWHERE
+    },
+    Habit {
+        start: C_TYPES,
+        before: C_TYPES,
+        advice: TYPE,
+        ..ANYWHERE
+    },
+    Habit {
+        second: C_TYPES,
+        before: ")",
+        advice: CONVERSION,
+        ..ANYWHERE
+    },
+    Habit {
+        second: "(",
+        before: TYPES,
+        here: ")",
+        advice: CONVERSION,
+        ..ANYWHERE
+    },
+    Habit {
+        before: "(",
+        here: "void",
+        advice: NO_PARAMETERS,
+        ..ANYWHERE
+    },
+    Habit {
+        before: "bool uint8 uint16 uint32 void",
+        here: "*",
+        advice: POINTER,
+        ..ANYWHERE
+    },
+    Habit {
+        before: "; { } = ( , return",
+        here: "* &",
+        advice: POINTER,
+        ..ANYWHERE
+    },
+    Habit {
+        before: "-",
+        here: ">",
+        advice: POINTER,
+        ..ANYWHERE
+    },
+    Habit {
+        region: Some(Region::Outside),
+        second: TYPES,
+        here: "= ; [ ,",
+        advice: GLOBAL,
+        ..ANYWHERE
+    },
+    Habit {
+        region: Some(Region::Outside),
+        before: TYPES,
+        here: "[",
+        advice: GLOBAL,
+        ..ANYWHERE
+    },
+    Habit {
+        region: Some(Region::Outside),
+        before: "public secret",
+        here: "mut",
+        advice: GLOBAL,
+        ..ANYWHERE
+    },
+    Habit {
+        second: TYPES,
+        here: "[",
+        advice: LENGTH,
+        ..ANYWHERE
+    },
+    Habit {
+        region: Some(Region::Brackets),
+        second: "mut",
+        before: TYPES,
+        advice: MUTABLE_WORD,
+        ..ANYWHERE
+    },
+    Habit {
+        region: Some(Region::Body),
+        second: TYPES,
+        here: ";",
+        advice: FIRST_VALUE,
+        ..ANYWHERE
+    },
+    Habit {
+        region: Some(Region::Body),
+        second: TYPES,
+        here: ",",
+        advice: ONE_VARIABLE,
+        ..ANYWHERE
+    },
+    Habit {
+        region: Some(Region::Body),
+        start: "public secret",
+        here: ",",
+        advice: ONE_VARIABLE,
+        ..ANYWHERE
+    },
+    Habit {
+        before: " ; { } ( , export",
+        here: "mut bool uint8 uint16 uint32",
+        advice: LABEL,
+        ..ANYWHERE
+    },
+    Habit {
+        before: TYPES,
+        here: KEYWORDS,
+        advice: KEYWORD,
+        ..ANYWHERE
+    },
+    Habit {
+        before: STATEMENT_ENDS,
+        here: "from to select",
+        advice: KEYWORD,
+        ..ANYWHERE
+    },
+    Habit {
+        before: ">>",
+        here: ">",
+        advice: UNSIGNED_SHIFT,
+        ..ANYWHERE
+    },
+    Habit {
+        before: "<<<",
+        advice: ROTATION,
+        ..ANYWHERE
+    },
+    Habit {
+        second: "<<<",
+        here: "+ - * / %",
+        advice: ROTATED,
+        ..ANYWHERE
+    },
+    Habit {
+        region: Some(Region::Body),
+        start: "if else for",
+        before: ")",
+        advice: BRACES,
+        ..ANYWHERE
+    },
+    Habit {
+        before: "else",
+        advice: BRACES,
+        ..ANYWHERE
+    },
+    Habit {
+        second: BEFORE_OPERANDS,
+        here: "(",
+        advice: CALL,
+        ..ANYWHERE
+    },
+    Habit {
+        region: Some(Region::Body),
+        before: ")",
+        here: OPERATORS,
+        advice: CALL,
+        ..ANYWHERE
+    },
+    Habit {
+        second: COMPARISONS,
+        here: COMPARISONS,
+        advice: COMPARISON,
+        ..ANYWHERE
+    },
+    Habit {
+        before: ")",
+        here: COMPARISONS,
+        advice: COMPARISON,
+        ..ANYWHERE
+    },
+    Habit {
+        region: Some(Region::Body),
+        second: "=",
+        here: "=",
+        advice: EQUALS,
+        ..ANYWHERE
+    },
+    Habit {
+        region: Some(Region::Brackets),
+        start: "if else",
+        second: "( && || !",
+        here: "=",
+        advice: EQUALS,
+        ..ANYWHERE
+    },
+    Habit {
+        region: Some(Region::Brackets),
+        start: "if else",
+        before: "]",
+        here: "=",
+        advice: EQUALS,
+        ..ANYWHERE
+    },
+    Habit {
+        before: STATEMENT_ENDS,
+        here: ";",
+        advice: SEMICOLON,
+        ..ANYWHERE
+    },
 ];
 
 /// The table.
 fn habits() -> &'static [Habit]
-    ensures { map (λ h. (h.0.now, h.1.now, h.2.now, h.3.now, h.4.now, h.5.now, h.6.now)) result.now ≡ habits }
+    ensures { map shown result.now ≡ habits }
 {
     &HABITS
 }
@@ -141,25 +424,31 @@ fn meets(words: &str, text: &str) -> bool
     words.is_empty() || is_one_of(words, text)
 }
 
-/// Whether a habit fits a place.
-fn fits(spot: &Spot<'_>, h: &Habit) -> bool
-    ensures { result ≡ fits (spot_of spot.now)
-        (h.now.0.now, h.now.1.now, h.now.2.now, h.now.3.now, h.now.4.now, h.now.5.now, h.now.6.now) }
+/// Whether a place is in a part of a program, where one is named.
+fn is_inside(region: Option<Region>, place: Region) -> bool
+    ensures { result ≡ is_inside region place }
 {
-    let (region, start, second, before, here, next, _) = *h;
-    meets(region, spot.region)
-        && meets(start, spot.statement_start())
-        && meets(second, spot.second)
-        && meets(before, spot.before)
-        && meets(here, spot.here)
-        && meets(next, spot.next)
+    match region {
+        Some(region) => region == place,
+        None => true,
+    }
+}
+
+/// Whether a habit fits a place.
+fn fits(spot: &Spot<'_>, habit: &Habit) -> bool
+    ensures { result ≡ fits (spot_of spot.now) (shown habit.now) }
+{
+    is_inside(habit.region, spot.region)
+        && meets(habit.start, spot.statement_start())
+        && meets(habit.second, spot.second)
+        && meets(habit.before, spot.before)
+        && meets(habit.here, spot.here)
+        && meets(habit.next, spot.next)
 }
 
 /// The first habit that fits a place.
 fn first_fitting(spot: &Spot<'_>, habits: &'static [Habit]) -> Option<Habit>
-    ensures { result ≡ find
-        (λ h. fits (spot_of spot.now) (h.0.now, h.1.now, h.2.now, h.3.now, h.4.now, h.5.now, h.6.now))
-        habits.now }
+    ensures { result ≡ find (λ habit. fits (spot_of spot.now) (shown habit)) habits.now }
 {
     habits.iter().copied().find(|habit| fits(spot, habit))
 }
@@ -169,7 +458,7 @@ pub(crate) fn advice_for(spot: &Spot<'_>) -> Option<&'static str>
     ensures { option_map (λ text. text.now) result ≡ advice_for (spot_of spot.now) }
 {
     match first_fitting(spot, habits()) {
-        Some(habit) => Some(habit.6),
+        Some(habit) => Some(habit.advice),
         None => None,
     }
 }

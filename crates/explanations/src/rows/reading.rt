@@ -23,9 +23,10 @@ pub const X2: &str =
     nothing: `010` is 10.";
 
 pub const X3: &str =
-    "This token cannot stand here, or the source ends too early: `factc check --explain` lists what can\n\
-    stand here. Look just before it for a missing `;`, bracket or operator. Write a call as a statement\n\
-    or as a whole right side, braces around each arm and each loop's body, and `return` once, last.";
+    "This token cannot stand here, or the source ends too early; with `--explain` the line `expected:`\n\
+    lists what can. Look just before it for a missing `;`, bracket or operator. Write a call as a\n\
+    statement or as a whole right side, braces around each arm and each loop's body, and `return` once,\n\
+    last.";
 
 pub const X4: &str =
     "Too much is nested here: more than 64 brackets, operators and `else`. A bracket counts until it is\n\

@@ -1,24 +1,17 @@
-use Rattle.std.proofs.Common.{◌≡◌, ℕ, List, Bor, map, Option}
+use Rattle.std.proofs.Common.{◌≡◌, ℕ, List, map, Option}
 use Rattle.std.specs.List.{find}
 use Rattle.std.specs.Option.{option_map}
+use Rattle.explanations.specs.declared.habits.table.Habit.{Habit as Row}
 use Rattle.explanations.specs.habits.Habits.{Habit, fits, habits}
 use Rattle.explanations.specs.habits.Spots.{Spot, spot_of}
+use Rattle.explanations.specs.private.HabitRows.{shown}
 use Rattle.explanations.proofs.habits_lemmas.HabitLemmas.{said_of_found}
 use Rattle.explanations.proofs.habits.table.advice_for.Goals as goal
 
-abbrev Text : Type 0
-Text = Bor (List ℕ)
-
-abbrev Row : Type 0
-Row = Text × Text × Text × Text × Text × Text × Text
-
-abbrev shown : Row → Habit
-shown h = (h.0.now, h.1.now, h.2.now, h.3.now, h.4.now, h.5.now, h.6.now)
-
 advised : (spot : Spot) (rows : List Row) (first : Option Row) → map shown rows ≡ habits
     → first ≡ find (λ h. fits spot (shown h)) rows
-    → option_map (λ (h : Habit). h.6) (option_map shown first) ≡ option_map (λ (h : Habit). h.6) (find (fits spot) habits)
-advised spot rows first table is = said_of_found shown (fits spot) (λ h. h.6) rows habits first table is
+    → option_map (λ (h : Habit). h.1) (option_map shown first) ≡ option_map (λ (h : Habit). h.1) (find (fits spot) habits)
+advised spot rows first table is = said_of_found shown (fits spot) (λ h. h.1) rows habits first table is
 
 pub returns-in-Some : goal.returns-in-Some
 returns-in-Some c =
