@@ -1,7 +1,15 @@
 #include "ed25519.h"
 #include "caller.h"
 
+/* A signature that is there already, of vectors whose labels begin so. */
+static const char *wrong_verify(const struct vector *vector) {
+    const struct part *parts = vector->parts;
+    return ed25519_verify(parts[0].bytes, parts[1].bytes, parts[1].count, parts[2].bytes) == vector->accepted ? 0 : "verify";
+}
+
 const char *wrong_with(const struct vector *vector) {
+    if (vector->label[0] == 'v')
+        return wrong_verify(vector);
     const uint8_t *seed = vector->parts[0].bytes;
     static uint8_t message[MOST_BYTES];
     uint32_t count = vector->parts[1].count;
