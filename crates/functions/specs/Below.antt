@@ -2,12 +2,16 @@
 pub use Rattle.word.specs.declared.place.Place.{Place}
 pub use Rattle.word.specs.declared.profile.Profile.{Profile}
 pub use Rattle.word.specs.declared.profile.Profile.TheVariants.{P1, P2}
-pub use Rattle.rv_code.specs.Text.{text_of}
+pub use Rattle.rv_code.specs.FieldText.{reg_text}
+pub use Rattle.rv_code.specs.Operations.{branch_row, sum_of}
+pub use Rattle.rv_code.specs.Text.{text_of, three_operands, two_operands}
 pub use Rattle.rv_code.specs.Words.{IsInstr}
 unfoldable pub use Rattle.rv_code.specs.Words.{word_of}
 pub use Rattle.rv_code.specs.declared.instructions.Instr.{Instr}
-pub use Rattle.rv_code.specs.declared.instructions.Instr.TheVariants.{JumpRegister, Load, Register, Store}
+pub use Rattle.rv_code.specs.declared.instructions.Instr.TheVariants.{Branch, Fence, Jump, JumpRegister, Load}
+pub use Rattle.rv_code.specs.declared.instructions.Instr.TheVariants.{Register, Store}
 pub use Rattle.rv_code.specs.declared.operations.RegisterOperation.TheVariants.{Add, Sub}
+pub use Rattle.rv_machine.specs.Effects.{branch_target, jump_target}
 pub use Rattle.language.specs.Signature.{exported, param_of}
 pub use Rattle.language.specs.Tree.{parameter_tree, ParameterTree, procedure_tree, ProcedureTree, program_tree}
 pub use Rattle.language.specs.Tree.{ProgramTree}
@@ -21,6 +25,7 @@ pub use Rattle.language.specs.declared.signature.Form.TheVariants.{FixedArray, M
 pub use Rattle.codegen.specs.Anywhere.{body_words}
 pub use Rattle.codegen.specs.expression_code.TermCode.{constant_code, load_by}
 pub use Rattle.codegen.specs.image_fields.Fields.{Fields}
+pub use Rattle.syntax.specs.Spelling.{is_name_or_keyword, is_word_byte}
 pub use Rattle.hepurita.specs.Built.{accepts, fine, IsCompilation, Judges, readable}
 pub use Rattle.hepurita.specs.declared.optimised.Optimisation.{Optimisation}
 pub use Rattle.linked_calls.specs.Callable.{CallsAreLinked, IsCallable}
@@ -46,4 +51,3 @@ pub use Rattle.linked_calls.specs.FunctionCode.{is_open, is_skipped}
 pub use Rattle.linked_calls.specs.Sections.{argument_section}
 pub use Rattle.linked_calls.specs.Sections.{argument_sections, array_section, array_sections, code_of, enter_sections}
 pub use Rattle.linked_calls.specs.Sections.{frame_sections, leave_sections, section_code}
-pub use Rattle.listing.specs.Code.{IsTextOf, of_instruction, of_no_instruction}

@@ -1,4 +1,6 @@
+pub mod Library
 pub mod Names
+pub mod Prefixes
 pub mod Functions
 pub mod FaultText
 pub mod AssemblerText

@@ -8,6 +8,8 @@ mod header;
 mod laws;
 mod lines;
 mod naming;
+mod notation;
+mod prefix;
 mod texts;
 
 pub use assembler::assembler_text;
@@ -15,5 +17,7 @@ pub use fault::FunctionFault;
 pub use function::{Function, NamedParam, function_of};
 pub use header::header_text;
 pub use laws::{functions_agree, functions_are_linked};
-pub use naming::is_taken_name;
+pub use naming::is_taken_function;
+pub use notation::Notation;
+pub use prefix::Prefix;
 pub use texts::{Texts, texts_of};

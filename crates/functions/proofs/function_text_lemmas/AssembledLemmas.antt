@@ -1,20 +1,30 @@
 -- The parts of a text for an assembler, put behind one another.
-use Rattle.std.proofs.Common.{◌≡◌, ℕ, List, [], ◌++◌, codes}
+use Rattle.std.proofs.Common.{◌≡◌, ℕ, List, [], ◌++◌, codes, ap, subst, ◌∙◌}
 use Rattle.functions.specs.Below.{body_words, leave_sections}
-use Rattle.functions.specs.function_text.AssemblerText.{entry_lines, ListsWords, IsAssemblerText, head_lines, tail_lines}
-use Rattle.functions.specs.function_text.AssemblerText.{sections_lines}
-use Rattle.functions.specs.function_text.AssemblerText.{title_line}
+use Rattle.functions.specs.declared.function_text.notation.Notation.{Notation}
+use Rattle.functions.specs.function_text.AssemblerText.{behind, body_start, entry_lines, exit_lines, exit_start}
+use Rattle.functions.specs.function_text.AssemblerText.{head_lines, IsAssemblerText, ListsWords, sections_lines}
+use Rattle.functions.specs.function_text.AssemblerText.{tail_lines, title_line}
 use Rattle.functions.specs.function_text.Functions.{FunctionParts}
 
-pub assembled : (f : FunctionParts) (start headed entered embodied left whole : List ℕ) → start ≡ []
-    → headed ≡ start ++ head_lines f
-    → entered ≡ headed ++ entry_lines f
-    → (body : (lines : List ℕ) × ListsWords (body_words f.image.words) lines
-    × (embodied ≡ entered ++ (title_line (codes "the body") ++ lines)))
-    → left ≡ embodied ++ sections_lines f.image (leave_sections f.image) → whole ≡ left ++ tail_lines f
-    → IsAssemblerText f whole
-assembled f start headed entered embodied left whole empty head enter body leave tail = record {
-  body = body.0;
-  listed = body.1;
-  whole = simp (tail, leave, body.2, enter, head, empty);
-}
+module _ (notation : Notation) (f : FunctionParts) (start headed entered embodied left whole : List ℕ)
+    (from to : ℕ) where
+  -- where the body begins, and where it ends
+  pub assembled : start ≡ [] → headed ≡ start ++ head_lines f → entered ≡ headed ++ entry_lines notation f
+      → from ≡ body_start f
+      → (body : (lines : List ℕ) × ListsWords notation f.name from (body_words f.image.words) lines
+      × (embodied ≡ entered ++ (title_line (codes "the body") ++ lines)))
+      → to ≡ behind from (body_words f.image.words)
+      → left ≡ embodied ++ sections_lines notation f to (leave_sections f.image) → whole ≡ left ++ tail_lines f
+      → IsAssemblerText notation f whole
+  assembled empty head enter begins body ends leave tail =
+      let ends_so : to ≡ exit_start f =
+      ends ∙ ap (λ (at : ℕ). behind at (body_words f.image.words)) begins in
+      let left_so : left ≡ embodied ++ exit_lines notation f =
+      subst (λ (at : ℕ). left ≡ embodied ++ sections_lines notation f at (leave_sections f.image)) ends_so leave in
+      record {
+        body = body.0;
+        listed =
+            subst (λ (at : ℕ). ListsWords notation f.name at (body_words f.image.words) body.0) begins body.1;
+        whole = simp (tail, left_so, body.2, enter, head, empty);
+      }

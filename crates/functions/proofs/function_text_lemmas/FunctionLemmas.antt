@@ -1,11 +1,11 @@
 -- The export of an accepted source, and the function that is made of it.
-use Rattle.std.proofs.Common.{◌≡◌, ℕ, List, [], map, true, false, Some, sym, ap, subst, inl, ◌∙◌}
+use Rattle.std.proofs.Common.{◌≡◌, ℕ, List, [], ◌++◌, map, true, false, Some, sym, ap, subst, inl, ◌∙◌}
 use Rattle.std.proofs.lemmas.Option.{same_Some}
 use Rattle.functions.specs.Below.{accepts, exported, Fields, fine, IsCompilation, Judges, Optimisation, Place}
 use Rattle.functions.specs.Below.{ProcedureTree, Profile, ProgramTree, readable, Refusal}
 use Rattle.functions.specs.function_text.Functions.{FunctionParts, IsFunctionOf, HasTakenName, IsFaultOf}
 use Rattle.functions.specs.function_text.Functions.{IsUnlessMemory, written_parameter}
-use Rattle.functions.specs.function_text.Names.{is_taken_name}
+use Rattle.functions.specs.function_text.Names.{is_taken_function}
 use Rattle.functions.specs.declared.function_text.fault.FunctionFault.{FunctionFault}
 use Rattle.functions.specs.declared.function_text.fault.FunctionFault.TheVariants.{Text, Name}
 use Rattle.functions.specs.function_text.private.OfExport.{IsOfExport, NameIsTaken}
@@ -13,7 +13,7 @@ use Rattle.hepurita.specs.Needs.{Needs}
 use Rattle.hepurita.specs.Exact.{frame_needs_for}
 use Rattle.hepurita.specs.Linked.{StartsAnywhere}
 
-module _ (optimisation : Optimisation) (profile : Profile) (source : List ℕ) (program : ProgramTree)
+module _ (optimisation : Optimisation) (profile : Profile) (prefix source : List ℕ) (program : ProgramTree)
     (before : List ProcedureTree) (export : ProcedureTree) where
   -- the program that a source is accepted as has the export that it is accepted with
   pub has_export : Judges profile source (accepts program before export)
@@ -31,36 +31,43 @@ module _ (optimisation : Optimisation) (profile : Profile) (source : List ℕ) (
     same = ap (λ (p : List ProcedureTree × ProcedureTree). p.1)
         (same_Some (before, export) (before', found) (sym (has_export is.judged) ∙ at))
 
-    -- its name is taken
-    taken : (place : Place) → NameIsTaken found place → HasTakenName profile source place
-    taken place of = record {
-      program = program;
-      before = before;
-      export = export;
-      judged = is.judged;
-      taken = subst (λ (p : ProcedureTree). is_taken_name p.name ≡ true) (sym same) of.taken;
-      stands = of.stands ∙ ap (λ (p : ProcedureTree). p.place) (sym same);
-    }
+    module _ (name : List ℕ) (is_name : name ≡ prefix ++ found.name) where
+      -- so the name is made of its name
+      made_of : name ≡ prefix ++ export.name
+      made_of = is_name ∙ ap (λ (p : ProcedureTree). prefix ++ p.name) (sym same)
 
-    -- its name is free
-    pub made : (parts : FunctionParts) → IsOfExport found image needs parts → IsFunctionOf optimisation profile source parts
-    made parts of = record {
-      program = program;
-      before = before;
-      export = export;
-      compilation = subst (IsCompilation optimisation profile source program before export) (sym of.image) is;
-      started =
-          subst (λ (i : Fields). StartsAnywhere program export i parts.needs) (sym of.image)
-          (subst (StartsAnywhere program export image) (sym of.needs_are) starts);
-      needs = of.needs_are ∙ needs_is;
-      name = of.name ∙ ap (λ (p : ProcedureTree). p.name) (sym same);
-      free = subst (λ (p : ProcedureTree). is_taken_name p.name ≡ false) (sym same) of.free;
-      parameters = of.parameters
-          ∙ ap (λ (p : ProcedureTree). map (written_parameter p.name) p.parameters) (sym same);
-    }
+      -- it is taken
+      taken : (place : Place) → NameIsTaken name found place → HasTakenName profile prefix source place
+      taken place of = record {
+        program = program;
+        before = before;
+        export = export;
+        judged = is.judged;
+        taken = subst (λ (n : List ℕ). is_taken_function n ≡ true) made_of of.taken;
+        stands = of.stands ∙ ap (λ (p : ProcedureTree). p.place) (sym same);
+      }
 
-    -- out of memory, or a name that is taken
-    pub fault_of : (fault : FunctionFault Refusal) → IsUnlessMemory fault (NameIsTaken found)
-        → IsFaultOf profile source fault
-    fault_of (Text refusal) of = inl of
-    fault_of (Name place) of = taken place of
+      -- it is free
+      pub made : (parts : FunctionParts) → IsOfExport name found image needs parts
+          → IsFunctionOf optimisation profile prefix source parts
+      made parts of = record {
+        program = program;
+        before = before;
+        export = export;
+        compilation = subst (IsCompilation optimisation profile source program before export) (sym of.image) is;
+        started =
+            subst (λ (i : Fields). StartsAnywhere program export i parts.needs) (sym of.image)
+            (subst (StartsAnywhere program export image) (sym of.needs_are) starts);
+        needs = of.needs_are ∙ needs_is;
+        name = of.named ∙ made_of;
+        free = subst (λ (n : List ℕ). is_taken_function n ≡ false) made_of of.free;
+        parameters = of.parameters
+            ∙ ap (λ (n : List ℕ). map (written_parameter n) found.parameters) made_of
+            ∙ ap (λ (p : ProcedureTree). map (written_parameter (prefix ++ export.name)) p.parameters) (sym same);
+      }
+
+      -- out of memory, or a name that is taken
+      pub fault_of : (fault : FunctionFault Refusal) → IsUnlessMemory fault (NameIsTaken name found)
+          → IsFaultOf profile prefix source fault
+      fault_of (Text refusal) of = inl of
+      fault_of (Name place) of = taken place of

@@ -7,12 +7,12 @@ use Rattle.functions.specs.function_text.Linked.{FunctionsAreLinked, HeadersStat
 use Rattle.functions.specs.Below.{CallsAreLinked, room_of}
 
 pub functions_are_linked : CallsAreLinked → FunctionsAreLinked
-functions_are_linked calls optimisation profile source parts of code site is =
+functions_are_linked calls optimisation profile prefix source parts of code site is =
     calls of.program of.before of.export parts.image parts.needs of.compilation.compiled of.started
     of.compilation.allowed code site is
 
 pub headers_state_stacks : HeadersStateStacks
-headers_state_stacks optimisation profile source assembler header texts =
+headers_state_stacks optimisation profile prefix notation source assembler header texts =
     let f = texts.parts in
     record {
       bytes = room_of f.image;

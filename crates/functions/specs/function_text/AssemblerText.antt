@@ -1,29 +1,72 @@
 -- The text of a function for an assembler. A word stands as a number, with its instruction as a comment, so nothing
--- is left for the assembler to encode. What changes for a debugger stands behind the word that changes it: where the
--- caller's x2 was, from which register on, and where the caller's registers are kept.
-use Rattle.std.specs.Prelude.{◌≡◌, ℕ, ◌-◌, ◌^◌, false, List, [], ◌∷◌, ◌++◌, codes, length}
+-- is left for the assembler to encode; or, where that is asked for, as its instruction, behind a label. What changes
+-- for a debugger stands behind the word that changes it: where the caller's x2 was, from which register on, and where
+-- the caller's registers are kept.
+use Rattle.std.specs.Prelude.{◌≡◌, ◌≢◌, ℕ, ◌-◌, ◌^◌, false, List, [], ◌∷◌, ◌++◌, codes, length}
 use Rattle.std.specs.Fmt.{decimal, digits, padded_integral, format_spec}
-use Rattle.std.specs.List.{flat_map}
-use Rattle.functions.specs.Below.{above_frame, body_words, enter_sections, Fields, FixedArray, Form, function_words}
-use Rattle.functions.specs.Below.{Instr, IsTextOf, leave_sections, Load, MutableArray, P1, P2, Profile, room_of}
-use Rattle.functions.specs.Below.{section_code, SingleWord, Store, text_of, word_of}
+use Rattle.functions.specs.Below.{above_frame, body_words, Branch, branch_row, branch_target, enter_sections, Fence}
+use Rattle.functions.specs.Below.{Fields, FixedArray, Form, function_words, Instr, IsInstr, Jump, jump_target}
+use Rattle.functions.specs.Below.{leave_sections, Load, MutableArray, P1, P2, Profile, reg_text, room_of, section_code}
+use Rattle.functions.specs.Below.{SingleWord, Store, sum_of, text_of, three_operands, two_operands, word_of}
 use Rattle.linked_calls.specs.declared.section.Section.{Section}
 use Rattle.linked_calls.specs.declared.section.Section.TheVariants.{RoomAboveFrame, SavedRegisters, ArgumentRegisters}
 use Rattle.linked_calls.specs.declared.section.Section.TheVariants.{FrameBase, ClearedFrame, LoweredStack, BlankWord}
 use Rattle.linked_calls.specs.declared.section.Section.TheVariants.{ArgumentIn, ResultOut}
 use Rattle.linked_calls.specs.declared.section.Section.TheVariants.{ArrayOut, FrameTop, RestoredRegisters}
 use Rattle.linked_calls.specs.declared.section.Section.TheVariants.{CallersStack, WipedRoom, ClearedRegisters, Return}
+use Rattle.functions.specs.declared.function_text.notation.Notation.{Notation}
+use Rattle.functions.specs.declared.function_text.notation.Notation.TheVariants.{Mnemonics, Numbers}
 use Rattle.functions.specs.function_text.Functions.{FunctionParts}
 
--- Lines.
+-- Words. The position of a word is how many bytes stand before it in the function, counted as the machine counts
+-- addresses.
+
+-- the position behind a word's
+abbrev pub next_position : ℕ → ℕ
+next_position at = sum_of at 4
+
+-- the position behind words or instructions that begin at one
+abbrev pub behind : {A : Type 0} → ℕ → List A → ℕ
+behind at [] = at
+behind at (first ∷ rest) = behind (next_position at) rest
+
+-- the label of the word at a position of the function of this name; an assembler keeps it to itself
+abbrev pub label_text : List ℕ → ℕ → List ℕ
+label_text name at = codes ".L" ++ name ++ codes "_" ++ decimal at
 
 -- eight hexadecimal digits, in lower case
 abbrev pub eight_digits : ℕ → List ℕ
 eight_digits word = padded_integral (format_spec 32 0 4 8 (2 ^ 64 - 1)) false [] (digits 16 false word)
 
--- a word, with a text as its comment
-abbrev pub word_line : ℕ → List ℕ → List ℕ
-word_line word text = codes "    .word 0x" ++ eight_digits word ++ codes "  # " ++ text ++ codes "\n"
+-- a word as a number, with a text as its comment
+abbrev pub number_text : ℕ → List ℕ → List ℕ
+number_text word text = codes ".word 0x" ++ eight_digits word ++ codes "  # " ++ text
+
+-- an instruction at a position, as assemblers take it: a branch or a jump goes to the label of its target, and all else
+-- is as in a listing. What a fence orders has no numbers there, so it stays one.
+abbrev pub mnemonic_text : List ℕ → ℕ → Instr → List ℕ
+mnemonic_text name at (Jump rd offset) =
+    two_operands (codes "jal") (reg_text rd) (label_text name (jump_target at offset))
+mnemonic_text name at (Branch test rs1 rs2 offset) =
+    three_operands (branch_row test).mnemonic (reg_text rs1) (reg_text rs2)
+    (label_text name (branch_target at offset))
+mnemonic_text name at (Fence mode before after rs1 rd) =
+    number_text (word_of (Fence mode before after rs1 rd)) (text_of (Fence mode before after rs1 rd))
+mnemonic_text name at instruction = text_of instruction
+
+abbrev pub instruction_text : Notation → List ℕ → ℕ → Instr → List ℕ
+instruction_text Numbers name at instruction = number_text (word_of instruction) (text_of instruction)
+instruction_text Mnemonics name at instruction = mnemonic_text name at instruction
+
+-- how the line of the word at a position begins
+abbrev pub line_start : Notation → List ℕ → ℕ → List ℕ
+line_start Numbers name at = codes "    "
+line_start Mnemonics name at = label_text name at ++ codes ": "
+
+abbrev pub code_line : Notation → List ℕ → ℕ → List ℕ → List ℕ
+code_line notation name at text = line_start notation name at ++ text ++ codes "\n"
+
+-- Lines.
 
 abbrev pub title_line : List ℕ → List ℕ
 title_line title = codes "    # " ++ title ++ codes "\n"
@@ -85,23 +128,51 @@ end_line image CallersStack = frame_line 5 0
 end_line image WipedRoom = frame_line 2 0
 end_line image _ = []
 
-abbrev pub instruction_lines : Fields → Section → Instr → List ℕ
-instruction_lines image section instruction = word_line (word_of instruction) (text_of instruction)
-    ++ change_lines image section instruction
+-- an instruction of a section at a position
+abbrev pub instruction_lines : Notation → FunctionParts → Section → ℕ → Instr → List ℕ
+instruction_lines notation f section at instruction =
+    code_line notation f.name at (instruction_text notation f.name at instruction)
+    ++ change_lines f.image section instruction
 
-abbrev pub section_lines : Fields → Section → List ℕ
-section_lines image section =
-    title_line (section_title section) ++ flat_map (instruction_lines image section) (section_code image section)
-    ++ end_line image section
+-- instructions of a section from a position on
+abbrev pub code_lines : Notation → FunctionParts → Section → ℕ → List Instr → List ℕ
+code_lines notation f section at [] = []
+code_lines notation f section at (instruction ∷ code) =
+    instruction_lines notation f section at instruction ++ code_lines notation f section (next_position at) code
 
-abbrev pub sections_lines : Fields → List Section → List ℕ
-sections_lines image sections = flat_map (section_lines image) sections
+abbrev pub section_lines : Notation → FunctionParts → ℕ → Section → List ℕ
+section_lines notation f at section =
+    title_line (section_title section) ++ code_lines notation f section at (section_code f.image section)
+    ++ end_line f.image section
+
+-- sections from a position on
+abbrev pub sections_lines : Notation → FunctionParts → ℕ → List Section → List ℕ
+sections_lines notation f at [] = []
+sections_lines notation f at (section ∷ sections) =
+    section_lines notation f at section
+    ++ sections_lines notation f (behind at (section_code f.image section)) sections
+
+-- the position behind sections that begin at one
+abbrev pub behind_sections : Fields → ℕ → List Section → ℕ
+behind_sections image at [] = at
+behind_sections image at (section ∷ sections) =
+    behind_sections image (behind at (section_code image section)) sections
 
 -- The body, whose words are the image's.
-pub data ListsWords : List ℕ → List ℕ → Type 0 where
-  nothing : ListsWords [] []
-  line : {word : ℕ} {words text rest : List ℕ} → IsTextOf word text → ListsWords words rest
-      → ListsWords (word ∷ words) (word_line word text ++ rest)
+
+-- the line of a word at a position: as its instruction's, or as a number that is no instruction's
+pub data IsWordLine (notation : Notation) (name : List ℕ) (at word : ℕ) : List ℕ → Type 0 where
+  of_instruction : (i : Instr) → IsInstr i → word_of i ≡ word
+      → IsWordLine notation name at word (code_line notation name at (instruction_text notation name at i))
+  of_no_instruction : ((i : Instr) → IsInstr i → word_of i ≢ word)
+      → IsWordLine notation name at word (code_line notation name at (number_text word (codes "illegal")))
+
+-- the lines of words from a position on
+pub data ListsWords (notation : Notation) (name : List ℕ) : ℕ → List ℕ → List ℕ → Type 0 where
+  nothing : {at : ℕ} → ListsWords notation name at [] []
+  line : {at word : ℕ} {words told rest : List ℕ} → IsWordLine notation name at word told
+      → ListsWords notation name (next_position at) words rest
+      → ListsWords notation name at (word ∷ words) (told ++ rest)
 
 -- The whole.
 
@@ -138,13 +209,24 @@ abbrev pub tail_lines : FunctionParts → List ℕ
 tail_lines f = codes "    .cfi_endproc\n    .size " ++ f.name ++ codes ", . - " ++ f.name
     ++ codes "\n    .option pop\n"
 
--- the sections before the body
-abbrev pub entry_lines : FunctionParts → List ℕ
-entry_lines f = sections_lines f.image (enter_sections f.image f.needs)
+-- where the body begins, and where what stands behind it does
+abbrev pub body_start : FunctionParts → ℕ
+body_start f = behind_sections f.image 0 (enter_sections f.image f.needs)
 
-pub record IsAssemblerText (f : FunctionParts) (text : List ℕ) : Type 0 where
+abbrev pub exit_start : FunctionParts → ℕ
+exit_start f = behind (body_start f) (body_words f.image.words)
+
+-- the sections before the body
+abbrev pub entry_lines : Notation → FunctionParts → List ℕ
+entry_lines notation f = sections_lines notation f 0 (enter_sections f.image f.needs)
+
+-- and those behind it
+abbrev pub exit_lines : Notation → FunctionParts → List ℕ
+exit_lines notation f = sections_lines notation f (exit_start f) (leave_sections f.image)
+
+pub record IsAssemblerText (notation : Notation) (f : FunctionParts) (text : List ℕ) : Type 0 where
   pub body : List ℕ
-  pub listed : ListsWords (body_words f.image.words) body
-  pub whole : text ≡ head_lines f ++ entry_lines f
+  pub listed : ListsWords notation f.name (body_start f) (body_words f.image.words) body
+  pub whole : text ≡ head_lines f ++ entry_lines notation f
       ++ (title_line (codes "the body") ++ body)
-      ++ sections_lines f.image (leave_sections f.image) ++ tail_lines f
+      ++ exit_lines notation f ++ tail_lines f

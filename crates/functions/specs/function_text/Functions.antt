@@ -1,7 +1,7 @@
 -- The function of a source, or why there is none.
-use Rattle.std.specs.Prelude.{◌≡◌, ℕ, true, false, List, map}
+use Rattle.std.specs.Prelude.{◌≡◌, ℕ, true, false, List, ◌++◌, map}
 use Rattle.std.specs.String.{string_bytes}
-use Rattle.functions.specs.function_text.Names.{is_taken_name, written_name}
+use Rattle.functions.specs.function_text.Names.{is_taken_function, written_name}
 use Rattle.functions.specs.declared.function_text.fault.FunctionFault.{FunctionFault}
 use Rattle.functions.specs.declared.function_text.fault.FunctionFault.TheVariants.{Text, Name}
 use Rattle.functions.specs.declared.function_text.function.Function.{Function}
@@ -39,32 +39,32 @@ abbrev pub written_parameter : List ℕ → ParameterTree → Named
 written_parameter function p = record { name = written_name function p.name; param = param_of p }
 
 -- the function of a source that is accepted for an observer: the code of its plain or its optimised image, under the
--- names of its export
-pub record IsFunctionOf (optimisation : Optimisation) (profile : Profile) (source : List ℕ) (parts : FunctionParts) :
-    Type 0 where
+-- names of its export, before whose own a prefix stands
+pub record IsFunctionOf (optimisation : Optimisation) (profile : Profile) (prefix source : List ℕ)
+    (parts : FunctionParts) : Type 0 where
   pub program : ProgramTree
   pub before : List ProcedureTree
   pub export : ProcedureTree
   pub compilation : IsCompilation optimisation profile source program before export parts.image
   pub started : StartsAnywhere program export parts.image parts.needs
   pub needs : parts.needs ≡ frame_needs_for optimisation profile before export
-  pub name : parts.name ≡ export.name
-  pub free : is_taken_name export.name ≡ false
-  pub parameters : parts.parameters ≡ map (written_parameter export.name) export.parameters
+  pub name : parts.name ≡ prefix ++ export.name
+  pub free : is_taken_function (prefix ++ export.name) ≡ false
+  pub parameters : parts.parameters ≡ map (written_parameter (prefix ++ export.name)) export.parameters
 
--- the source is accepted, and its export, which stands at this place, has a name that is taken
-pub record HasTakenName (profile : Profile) (source : List ℕ) (place : Place) : Type 0 where
+-- the source is accepted, and the name of its export, which stands at this place, is taken with the prefix before it
+pub record HasTakenName (profile : Profile) (prefix source : List ℕ) (place : Place) : Type 0 where
   pub program : ProgramTree
   pub before : List ProcedureTree
   pub export : ProcedureTree
   pub judged : Judges profile source (accepts program before export)
-  pub taken : is_taken_name export.name ≡ true
+  pub taken : is_taken_function (prefix ++ export.name) ≡ true
   pub stands : place ≡ export.place
 
 -- the source's refusal, or the export's name
-abbrev pub IsFaultOf : Profile → List ℕ → FunctionFault Refusal → Type 0
-IsFaultOf profile source (Text refusal) = IsRefusalOf profile source refusal
-IsFaultOf profile source (Name place) = HasTakenName profile source place
+abbrev pub IsFaultOf : Profile → List ℕ → List ℕ → FunctionFault Refusal → Type 0
+IsFaultOf profile prefix source (Text refusal) = IsRefusalOf profile source refusal
+IsFaultOf profile prefix source (Name place) = HasTakenName profile prefix source place
 
 -- out of memory, or a place of which this holds
 abbrev pub IsUnlessMemory : FunctionFault Refusal → (Place → Type 0) → Type 0

@@ -4,6 +4,7 @@ use Rattle.functions.specs.Below.{Fields, IsCallable, Optimisation, Profile}
 use Rattle.functions.specs.function_text.Functions.{FunctionParts, IsFunctionOf}
 use Rattle.functions.specs.function_text.HeaderText.{stack_line}
 use Rattle.functions.specs.function_text.Texts.{AreTextsOf}
+use Rattle.functions.specs.declared.function_text.notation.Notation.{Notation}
 use Rattle.hepurita.specs.Needs.{Needs}
 use Rattle.linked_calls.specs.Calls.{CallSite, IsSite, room_base}
 use Rattle.rv_machine.specs.Machine.{MachineCode}
@@ -11,8 +12,8 @@ use Rattle.rv_machine.specs.Machine.{MachineCode}
 -- and what it does is what the source's program means, for an observer of this profile
 abbrev pub FunctionsAreLinked : Type 0
 FunctionsAreLinked =
-    (optimisation : Optimisation) (profile : Profile) (source : List ℕ) (parts : FunctionParts)
-    (of : IsFunctionOf optimisation profile source parts)
+    (optimisation : Optimisation) (profile : Profile) (prefix source : List ℕ) (parts : FunctionParts)
+    (of : IsFunctionOf optimisation profile prefix source parts)
     → (code : MachineCode) (site : CallSite)
     → IsSite parts.image parts.needs code site
     → IsCallable of.program of.export parts.image parts.needs code site
@@ -29,6 +30,6 @@ pub record StatesStack (image : Fields) (needs : Needs) (name header : List ℕ)
 
 abbrev pub HeadersStateStacks : Type 0
 HeadersStateStacks =
-    (optimisation : Optimisation) (profile : Profile) (source assembler header : List ℕ)
-    (texts : AreTextsOf optimisation profile source assembler header)
+    (optimisation : Optimisation) (profile : Profile) (prefix : List ℕ) (notation : Notation)
+    (source assembler header : List ℕ) (texts : AreTextsOf optimisation profile prefix notation source assembler header)
     → StatesStack texts.parts.image texts.parts.needs texts.parts.name header

@@ -1,5 +1,6 @@
--- Names that C, C++ or an assembler cannot take for a function, and the names of its parameters.
-use Rattle.std.specs.Char.{is_ascii_uppercase}
+-- Names that C, its library, C++ or an assembler cannot take for a function, and the names of its parameters.
+use Rattle.functions.specs.function_text.Library.{macro_names, number_names, system_names, text_names, thread_names}
+use Rattle.std.specs.Char.{is_ascii_lowercase, is_ascii_uppercase}
 use Rattle.std.specs.Prelude.{ℕ, Bool, ◌&&◌, ◌||◌, ◌==◌, nat_eq, nat_le, List, [], ◌∷◌, ◌++◌, length, slice_index}
 use Rattle.std.specs.Prelude.{codes, if◌then◌else◌}
 use Rattle.std.specs.Cmp.Lexicographic.{pointwise}
@@ -84,10 +85,41 @@ is_integers name =
     || ((begins name (codes "INT") || begins name (codes "UINT"))
     && (ends name (codes "_MIN") || (ends name (codes "_MAX") || ends name (codes "_C"))))
 
+-- what <inttypes.h> defines as formats of printed and of scanned integers
+unfoldable pub is_format : List ℕ → Bool
+is_format name =
+    nat_le 4 (length name) && ((begins name (codes "PRI") || begins name (codes "SCN"))
+    && (is_ascii_lowercase (slice_index name 3) || (slice_index name 3 == 88)))
+
+unfoldable pub is_macro_name : List ℕ → Bool
+is_macro_name name = list_any (is_word name) macro_names
+
+-- what neither a function nor a parameter can be called
 unfoldable pub is_taken_name : List ℕ → Bool
 is_taken_name name =
     is_c_word name
-    || (is_cpp_word name || (is_register name || (is_other_word name || (is_compilers name || is_integers name))))
+    || (is_cpp_word name || (is_register name || (is_other_word name || (is_compilers name || (is_integers name
+    || (is_format name || is_macro_name name))))))
+
+unfoldable pub is_number_name : List ℕ → Bool
+is_number_name name = list_any (is_word name) number_names
+
+unfoldable pub is_text_name : List ℕ → Bool
+is_text_name name = list_any (is_word name) text_names
+
+unfoldable pub is_system_name : List ℕ → Bool
+is_system_name name = list_any (is_word name) system_names
+
+unfoldable pub is_thread_name : List ℕ → Bool
+is_thread_name name = list_any (is_word name) thread_names
+
+-- what C's library has, as a function, a macro with arguments or a type
+unfoldable pub is_library_name : List ℕ → Bool
+is_library_name name = is_number_name name || (is_text_name name || (is_system_name name || is_thread_name name))
+
+-- what a function cannot be called
+unfoldable pub is_taken_function : List ℕ → Bool
+is_taken_function name = is_taken_name name || is_library_name name
 
 -- Parameters. A name that is taken is written with `_` behind, and one that ends in `_` with one more: so different
 -- names are written differently.

@@ -1,13 +1,13 @@
 // The text of a function for an assembler.
 
-ghost use Rattle.std.specs.Prelude.{◌≡◌, ℕ, ◌++◌, List, codes, OnOk, IfOk};
-ghost use Rattle.std.specs.List.{flat_map};
+ghost use Rattle.std.specs.Prelude.{◌≡◌, ℕ, ◌++◌, List, [], codes, OnOk, IfOk};
 ghost use Rattle.std.specs.String.{string_bytes};
-ghost use Rattle.functions.specs.Below.{body_words, enter_sections, leave_sections};
-ghost use Rattle.functions.specs.function_text.AssemblerText.{ListsWords, IsAssemblerText, instruction_lines};
-ghost use Rattle.functions.specs.function_text.AssemblerText.{section_lines, sections_lines, profile_text, sizes_text};
+ghost use Rattle.functions.specs.Below.{body_words, leave_sections, section_code};
+ghost use Rattle.functions.specs.function_text.AssemblerText.{ListsWords, IsAssemblerText, behind, behind_sections};
+ghost use Rattle.functions.specs.function_text.AssemblerText.{body_start, code_lines, section_lines, sections_lines};
+ghost use Rattle.functions.specs.function_text.AssemblerText.{profile_text, sizes_text, title_line};
 ghost use Rattle.functions.specs.function_text.AssemblerText.{first_line, place_lines, symbol_lines, head_lines};
-ghost use Rattle.functions.specs.function_text.AssemblerText.{entry_lines, tail_lines, title_line};
+ghost use Rattle.functions.specs.function_text.AssemblerText.{entry_lines, tail_lines};
 ghost use Rattle.functions.specs.function_text.Functions.{parts_of};
 ghost use Rattle.functions.specs.function_code.Above.{IsAbove};
 
@@ -15,8 +15,8 @@ use crate::function_code::{
     above_frame, body, enter_sections, function_words, leave_sections, room_of, section_code,
 };
 use crate::function_text::function::Function;
-use crate::function_text::lines::{push_end, push_instruction, push_number, push_title, push_word};
-use codegen::image_fields::ImageFields;
+use crate::function_text::lines::{push_end, push_instruction, push_number, push_title};
+use crate::function_text::notation::{Notation, next_position, push_word};
 use language::Profile;
 use linked_calls::Section;
 use rv_code::Instr;
@@ -32,65 +32,89 @@ pub(crate) fn profile_text(profile: Profile) -> &'static str
     }
 }
 
-/// The instructions of a section, at the end of a text.
+/// The instructions of a section from a position on, at the end of a text; and the position behind them.
 fn push_code(
     text: &mut String,
-    image: &ImageFields,
+    function: &Function,
+    notation: Notation,
     section: Section,
+    start: u32,
     code: &[Instr],
-) -> Result<(), AllocError>
-    ensures { OnOk result (string_bytes text.new
-        ≡ string_bytes text.old ++ flat_map (instruction_lines image.now section) code.now) }
+) -> Result<u32, AllocError>
+    ensures written { OnOk result (string_bytes text.new ≡ string_bytes text.old
+        ++ code_lines notation (parts_of function.now) section start code.now) }
+    ensures ends { IfOk result (λ end. end ≡ behind start code.now) }
 {
+    let mut at = start;
     for instruction in code {
-        push_instruction(text, image, section, instruction)?;
+        push_instruction(text, function, notation, section, at, instruction)?;
+        at = next_position(at);
     }
-    Ok(())
+    Ok(at)
 }
 
-/// A section, at the end of a text.
+/// A section from a position on, at the end of a text; and the position behind it.
 fn push_section(
     alloc: Global,
     text: &mut String,
-    image: &ImageFields,
+    function: &Function,
+    notation: Notation,
     above: u32,
+    start: u32,
     section: Section,
-) -> Result<(), AllocError>
-    requires { IsAbove image.now above }
-    ensures { OnOk result (string_bytes text.new ≡ string_bytes text.old ++ section_lines image.now section) }
+) -> Result<u32, AllocError>
+    requires { IsAbove function.now.image above }
+    ensures written { OnOk result (string_bytes text.new ≡ string_bytes text.old
+        ++ section_lines notation (parts_of function.now) start section) }
+    ensures ends { IfOk result (λ end. end ≡ behind start (section_code function.now.image section)) }
 {
-    let code = section_code(alloc, image, above, section)?;
+    let code = section_code(alloc, &function.image, above, section)?;
     push_title(text, section)?;
-    push_code(text, image, section, code.as_slice())?;
-    push_end(text, image, section)
+    let end = push_code(text, function, notation, section, start, code.as_slice())?;
+    push_end(text, &function.image, section)?;
+    Ok(end)
 }
 
-/// Sections, at the end of a text.
+/// Sections from a position on, at the end of a text; and the position behind them.
 fn push_sections(
     alloc: Global,
     text: &mut String,
-    image: &ImageFields,
-    above: u32,
+    function: &Function,
+    notation: Notation,
+    start: u32,
     sections: &[Section],
-) -> Result<(), AllocError>
-    requires { IsAbove image.now above }
-    ensures { OnOk result (string_bytes text.new ≡ string_bytes text.old ++ sections_lines image.now sections.now) }
+) -> Result<u32, AllocError>
+    ensures written { OnOk result (string_bytes text.new ≡ string_bytes text.old
+        ++ sections_lines notation (parts_of function.now) start sections.now) }
+    ensures ends { IfOk result (λ end. end ≡ behind_sections function.now.image start sections.now) }
 {
+    let above = above_frame(&function.image);
+    let mut at = start;
     for section in sections {
-        push_section(alloc, text, image, above, *section)?;
+        at = push_section(alloc, text, function, notation, above, at, *section)?;
     }
-    Ok(())
+    Ok(at)
 }
 
-/// The lines of a body's words.
-fn body_lines(alloc: Global, words: &[u32]) -> Result<String, AllocError>
-    ensures { IfOk result (λ lines. ListsWords words.now (string_bytes lines)) }
+/// Words from a position on, at the end of a text that is theirs; and the position behind them.
+fn push_words(
+    lines: &mut String,
+    function: &Function,
+    notation: Notation,
+    start: u32,
+    words: &[u32],
+) -> Result<u32, AllocError>
+    requires { string_bytes lines.old ≡ [] }
+    ensures written { OnOk result (ListsWords notation function.now.name start words.now (string_bytes lines.new)) }
+    ensures ends { IfOk result (λ end. end ≡ behind start words.now) }
 {
-    let mut lines = String::new(alloc);
+    let name = function.name.as_str();
+    let mut at = start;
     for &word in words {
-        push_word(&mut lines, word)?;
+        push_word(lines, notation, name, at, word)?;
+        at = next_position(at);
     }
-    Ok(lines)
+    Ok(at)
 }
 
 /// How large the function is, and for which observer, at the end of a text.
@@ -162,48 +186,71 @@ fn push_tail(text: &mut String, function: &Function) -> Result<(), AllocError>
     text.push_str("\n    .option pop\n")
 }
 
-/// The sections before the body, at the end of a text.
-fn push_entry(alloc: Global, text: &mut String, function: &Function) -> Result<(), AllocError>
-    ensures { OnOk result (string_bytes text.new
-        ≡ string_bytes text.old ++ entry_lines (parts_of function.now)) }
+/// The sections before the body, at the end of a text; and where the body begins.
+fn push_entry(
+    alloc: Global,
+    text: &mut String,
+    function: &Function,
+    notation: Notation,
+) -> Result<u32, AllocError>
+    ensures written { OnOk result (string_bytes text.new
+        ≡ string_bytes text.old ++ entry_lines notation (parts_of function.now)) }
+    ensures ends { IfOk result (λ end. end ≡ body_start (parts_of function.now)) }
 {
     let sections = enter_sections(alloc, &function.image, &function.needs)?;
-    let above = above_frame(&function.image);
-    push_sections(alloc, text, &function.image, above, sections.as_slice())
+    push_sections(alloc, text, function, notation, 0, sections.as_slice())
 }
 
-/// The body, at the end of a text.
-fn push_body(alloc: Global, text: &mut String, image: &ImageFields) -> Result<(), AllocError>
-    ensures { OnOk result ((lines : List ℕ)
-        × ListsWords (body_words image.now.words) lines
+/// The body from a position on, at the end of a text; and the position behind it.
+fn push_body(
+    alloc: Global,
+    text: &mut String,
+    function: &Function,
+    notation: Notation,
+    start: u32,
+) -> Result<u32, AllocError>
+    ensures written { OnOk result ((lines : List ℕ)
+        × ListsWords notation function.now.name start (body_words function.now.image.words) lines
         × (string_bytes text.new ≡ string_bytes text.old ++ (title_line (codes "the body") ++ lines))) }
+    ensures ends { IfOk result (λ end. end ≡ behind start (body_words function.now.image.words)) }
 {
-    let lines = body_lines(alloc, body(image))?;
+    let mut lines = String::new(alloc);
+    let end = push_words(&mut lines, function, notation, start, body(&function.image))?;
     text.push_str("    # the body\n")?;
     text.push_str(lines.as_str())?;
+    Ok(end)
+}
+
+/// The sections behind the body, from a position on, at the end of a text.
+fn push_exit(
+    alloc: Global,
+    text: &mut String,
+    function: &Function,
+    notation: Notation,
+    start: u32,
+) -> Result<(), AllocError>
+    ensures { OnOk result (string_bytes text.new ≡ string_bytes text.old
+        ++ sections_lines notation (parts_of function.now) start (leave_sections function.now.image)) }
+{
+    let sections = leave_sections(alloc, &function.image)?;
+    push_sections(alloc, text, function, notation, start, sections.as_slice())?;
     Ok(())
 }
 
-/// The sections behind the body, at the end of a text.
-fn push_exit(alloc: Global, text: &mut String, image: &ImageFields) -> Result<(), AllocError>
-    ensures { OnOk result (string_bytes text.new
-        ≡ string_bytes text.old ++ sections_lines image.now (leave_sections image.now)) }
-{
-    let sections = leave_sections(alloc, image)?;
-    let above = above_frame(image);
-    push_sections(alloc, text, image, above, sections.as_slice())
-}
-
-/// The text of a function for a GNU or LLVM assembler: its words as numbers, each with its instruction as a comment,
-/// with the function's symbol, and what a debugger has to know at each word. It is refused only when out of memory.
-pub fn assembler_text(alloc: Global, function: &Function) -> Result<String, AllocError>
-    ensures { IfOk result (λ text. IsAssemblerText (parts_of function.now) (string_bytes text)) }
+/// The text of a function for a GNU or LLVM assembler: its words as numbers or as instructions, with the function's
+/// symbol, and what a debugger has to know at each word. It is refused only when out of memory.
+pub fn assembler_text(
+    alloc: Global,
+    function: &Function,
+    notation: Notation,
+) -> Result<String, AllocError>
+    ensures { IfOk result (λ text. IsAssemblerText notation (parts_of function.now) (string_bytes text)) }
 {
     let mut text = String::new(alloc);
     push_head(alloc, &mut text, function)?;
-    push_entry(alloc, &mut text, function)?;
-    push_body(alloc, &mut text, &function.image)?;
-    push_exit(alloc, &mut text, &function.image)?;
+    let body_start = push_entry(alloc, &mut text, function, notation)?;
+    let exit_start = push_body(alloc, &mut text, function, notation, body_start)?;
+    push_exit(alloc, &mut text, function, notation, exit_start)?;
     push_tail(&mut text, function)?;
     Ok(text)
 }

@@ -1,17 +1,18 @@
 // The function of a source.
 
-ghost use Rattle.std.specs.Prelude.{◌≡◌, false, List, [], Some, map, IfOk, IfErr};
+ghost use Rattle.std.specs.Prelude.{◌≡◌, false, List, [], ◌++◌, Some, map, IfOk, IfErr};
+ghost use Rattle.std.specs.String.{string_bytes};
 ghost use Rattle.functions.specs.function_text.Functions.{IsFunctionOf, IsFaultOf, IsUnlessMemory, named};
 ghost use Rattle.functions.specs.function_text.Functions.{parts_of};
 ghost use Rattle.functions.specs.function_text.Functions.{written_parameter};
-ghost use Rattle.functions.specs.function_text.Names.{is_taken_name};
+ghost use Rattle.functions.specs.function_text.Names.{is_taken_function};
 ghost use Rattle.functions.specs.function_text.private.OfExport.{IsOfExport, NameIsTaken};
 ghost use Rattle.functions.specs.Below.{exported, IsWantOfMemory, parameter_tree, procedure_tree, ProcedureTree};
 ghost use Rattle.functions.specs.Below.{program_tree};
 ghost use Rattle.hepurita.specs.Needs.{needs_as};
 
 use crate::function_text::fault::FunctionFault;
-use crate::function_text::naming::{Macros, is_taken_name, macros_of, written_name};
+use crate::function_text::naming::{Macros, is_taken_function, macros_of, written_name};
 use codegen::Code;
 use codegen::image_fields::ImageFields;
 use hepurita::{Compiled, FrameNeeds, Optimisation, compile_with};
@@ -68,22 +69,29 @@ fn export_of(program: &Program) -> &Procedure
     }
 }
 
-/// The function of an export whose name is free, and of its code.
+/// The name of a function: that of its export behind a prefix.
+fn function_name(alloc: Global, prefix: &str, export: &str) -> Result<String, AllocError>
+    ensures { IfOk result (λ name. string_bytes name ≡ prefix.now ++ export.now) }
+{
+    format!(in alloc; "{prefix}{export}")
+}
+
+/// The function of an export and of its code, under a name that is free.
 fn named_function(
     alloc: Global,
+    name: &str,
     export: &Procedure,
     code: Code,
     needs: FrameNeeds,
 ) -> Result<Function, Refusal>
-    requires { is_taken_name export.now.name ≡ false }
+    requires { is_taken_function name.now ≡ false }
     ensures made { IfOk result (λ function.
-        IsOfExport (procedure_tree export.now) code (needs_as needs) (parts_of function)) }
+        IsOfExport name.now (procedure_tree export.now) code (needs_as needs) (parts_of function)) }
     ensures memory { IfErr result (λ refusal. IsWantOfMemory refusal.rule refusal.place) }
 {
-    let text = export.name.as_str();
-    let macros = macros_of(alloc, text)?;
+    let macros = macros_of(alloc, name)?;
     let parameters = named_params(alloc, &macros, export.parameters.as_slice())?;
-    let name = Name::new(alloc, text)?;
+    let name = Name::new(alloc, name)?;
     Ok(Function {
         name,
         parameters,
@@ -92,34 +100,37 @@ fn named_function(
     })
 }
 
-/// The function of an export and of its code.
+/// The function of an export and of its code, under a name.
 fn of_export(
     alloc: Global,
+    name: &str,
     export: &Procedure,
     code: Code,
     needs: FrameNeeds,
 ) -> Result<Function, FunctionFault<Refusal>>
     ensures made { IfOk result (λ function.
-        IsOfExport (procedure_tree export.now) code (needs_as needs) (parts_of function)) }
-    ensures fault { IfErr result (λ fault. IsUnlessMemory fault (NameIsTaken (procedure_tree export.now))) }
+        IsOfExport name.now (procedure_tree export.now) code (needs_as needs) (parts_of function)) }
+    ensures fault { IfErr result (λ fault. IsUnlessMemory fault (NameIsTaken name.now (procedure_tree export.now))) }
 {
-    if is_taken_name(export.name.as_str()) {
+    if is_taken_function(name) {
         return Err(FunctionFault::Name(export.place));
     }
-    Ok(named_function(alloc, export, code, needs)?)
+    Ok(named_function(alloc, name, export, code, needs)?)
 }
 
-/// The function of a source that is accepted for an observer of this profile, with plain or optimised code. A source
-/// that is not is refused as by `compile_with`, before its names are looked at; then an export's name that C, C++ or an
-/// assembler cannot take.
+/// The function of a source that is accepted for an observer of this profile, with plain or optimised code; its name is
+/// the export's behind a prefix. A source that is not accepted is refused as by `compile_with`, before its names are
+/// looked at; then a name that C, its library, C++ or an assembler cannot take.
 pub fn function_of(
     alloc: Global,
     source: &str,
     profile: Profile,
     optimisation: Optimisation,
+    prefix: &str,
 ) -> Result<Function, FunctionFault<Refusal>>
-    ensures made { IfOk result (λ function. IsFunctionOf optimisation profile source.now (parts_of function)) }
-    ensures fault { IfErr result (IsFaultOf profile source.now) }
+    ensures made { IfOk result (λ function.
+        IsFunctionOf optimisation profile prefix.now source.now (parts_of function)) }
+    ensures fault { IfErr result (IsFaultOf profile prefix.now source.now) }
 {
     let compiled = compile_with(alloc, source, profile, optimisation)?;
     let Compiled {
@@ -127,5 +138,7 @@ pub fn function_of(
         code,
         needs,
     } = compiled;
-    of_export(alloc, export_of(&program), code, needs)
+    let export = export_of(&program);
+    let name = function_name(alloc, prefix, export.name.as_str())?;
+    of_export(alloc, name.as_str(), export, code, needs)
 }

@@ -6,19 +6,22 @@ ghost use Rattle.functions.specs.function_text.Linked.{FunctionsAreLinked, Heade
 ghost use Rattle.functions.specs.function_text.Texts.{AreTextsOf};
 ghost use Rattle.functions.specs.Below.{Optimisation, Profile};
 
+use crate::function_text::notation::Notation;
 use linked_calls::calls_are_linked;
 use rv_code::laws::words_differ;
 use syntax::one_answer_for_a_source;
 
-/// A source has one plain and one optimised function for an observer: two of a kind are one in their names, parameters
-/// and image, so in their words; and the texts of two are one.
+/// A source has one plain and one optimised function for an observer and under a prefix: two of a kind are one in their
+/// names, parameters and image, so in their words; and the texts of two, written alike, are one.
 pub fn functions_agree()
-    ensures parts { (optimisation : Optimisation) (profile : Profile) (source : List ℕ) (one other : FunctionParts)
-        → IsFunctionOf optimisation profile source one → IsFunctionOf optimisation profile source other → one ≡ other }
-    ensures texts { (optimisation : Optimisation) (profile : Profile)
+    ensures parts { (optimisation : Optimisation) (profile : Profile) (prefix source : List ℕ)
+        (one other : FunctionParts)
+        → IsFunctionOf optimisation profile prefix source one → IsFunctionOf optimisation profile prefix source other
+        → one ≡ other }
+    ensures texts { (optimisation : Optimisation) (profile : Profile) (prefix : List ℕ) (notation : Notation)
         (source assembler header assembler' header' : List ℕ)
-        → AreTextsOf optimisation profile source assembler header
-        → AreTextsOf optimisation profile source assembler' header'
+        → AreTextsOf optimisation profile prefix notation source assembler header
+        → AreTextsOf optimisation profile prefix notation source assembler' header'
         → (assembler ≡ assembler') × (header ≡ header') }
 {
     words_differ();

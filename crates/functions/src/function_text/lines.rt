@@ -1,28 +1,22 @@
 // Lines of a function's text for an assembler, each put at the end of a text.
 
-ghost use Rattle.std.specs.Prelude.{◌≡◌, ◌++◌, OnOk, List, ℕ, codes};
+ghost use Rattle.std.specs.Prelude.{◌≡◌, ◌++◌, OnOk, codes};
 ghost use Rattle.std.specs.Fmt.{decimal};
 ghost use Rattle.std.specs.String.{string_bytes};
-ghost use Rattle.functions.specs.function_text.AssemblerText.{eight_digits, word_line, title_line, frame_line};
+ghost use Rattle.functions.specs.function_text.AssemblerText.{title_line, frame_line};
 ghost use Rattle.functions.specs.function_text.AssemblerText.{argument_title, section_title, kept_line, restored_line};
 ghost use Rattle.functions.specs.function_text.AssemblerText.{change_lines, end_line, instruction_lines};
-ghost use Rattle.functions.specs.Below.{IsTextOf, text_of};
+ghost use Rattle.functions.specs.function_text.Functions.{parts_of};
 
 use crate::function_code::{above_frame, room_of};
+use crate::function_text::function::Function;
+use crate::function_text::notation::{Notation, push_code_line};
 use codegen::image_fields::ImageFields;
 use language::Form;
 use linked_calls::Section;
-use rv_code::{Instr, decode, encode};
-use std::alloc::{AllocError, Global};
+use rv_code::Instr;
+use std::alloc::AllocError;
 use std::fmt::Write;
-
-/// A word with its instruction as a comment.
-fn push_told(text: &mut String, word: u32, instruction: &Instr) -> Result<(), AllocError>
-    ensures { OnOk result (string_bytes text.new ≡ string_bytes text.old ++ word_line word (text_of instruction.now)) }
-{
-    writeln!(text, "    .word 0x{word:08x}  # {instruction}")?;
-    Ok(())
-}
 
 /// A number in decimal.
 pub fn push_number(text: &mut String, number: u64) -> Result<(), AllocError>
@@ -30,37 +24,6 @@ pub fn push_number(text: &mut String, number: u64) -> Result<(), AllocError>
 {
     write!(text, "{number}")?;
     Ok(())
-}
-
-/// A word in eight hexadecimal digits.
-fn push_digits(text: &mut String, word: u32) -> Result<(), AllocError>
-    ensures { OnOk result (string_bytes text.new ≡ string_bytes text.old ++ eight_digits word) }
-{
-    write!(text, "{word:08x}")?;
-    Ok(())
-}
-
-/// A word that is no instruction's.
-fn push_illegal(text: &mut String, word: u32) -> Result<(), AllocError>
-    ensures { OnOk result (string_bytes text.new ≡ string_bytes text.old ++ word_line word (codes "illegal")) }
-{
-    text.push_str("    .word 0x")?;
-    push_digits(text, word)?;
-    text.push_str("  # ")?;
-    text.push_str("illegal")?;
-    text.push_str("\n")
-}
-
-/// A word of an image.
-pub fn push_word(text: &mut String, word: u32) -> Result<(), AllocError>
-    ensures { OnOk result ((told : List ℕ)
-        × IsTextOf word told
-        × (string_bytes text.new ≡ string_bytes text.old ++ word_line word told)) }
-{
-    match decode(word) {
-        Some(instruction) => push_told(text, word, &instruction),
-        None => push_illegal(text, word),
-    }
 }
 
 /// Where the caller's x2 is, from a register on.
@@ -207,19 +170,20 @@ fn push_change(
     }
 }
 
-/// An instruction of a section, and what changes by it.
+/// An instruction of a section at a position, and what changes by it.
 pub fn push_instruction(
     text: &mut String,
-    image: &ImageFields,
+    function: &Function,
+    notation: Notation,
     section: Section,
+    at: u32,
     instruction: &Instr,
 ) -> Result<(), AllocError>
-    ensures { OnOk result (string_bytes text.new
-        ≡ string_bytes text.old ++ instruction_lines image.now section instruction.now) }
+    ensures { OnOk result (string_bytes text.new ≡ string_bytes text.old
+        ++ instruction_lines notation (parts_of function.now) section at instruction.now) }
 {
-    let word = encode(*instruction);
-    push_told(text, word, instruction)?;
-    push_change(text, image, section, instruction)
+    push_code_line(text, notation, function.name.as_str(), at, instruction)?;
+    push_change(text, &function.image, section, instruction)
 }
 
 /// What has changed for a debugger at the end of a section.

@@ -3,9 +3,13 @@
 ghost use Rattle.std.specs.Prelude.{◌≡◌, IfOk};
 ghost use Rattle.std.specs.String.{string_bytes};
 ghost use Rattle.functions.specs.function_text.Names.{is_c_word, is_cpp_word, is_register, is_other_word, is_compilers};
-ghost use Rattle.functions.specs.function_text.Names.{is_integers, is_taken_name, guard_name, stack_name, is_taken_in};
+ghost use Rattle.functions.specs.function_text.Names.{is_integers, is_format, is_taken_name, is_library_name};
+ghost use Rattle.functions.specs.function_text.Names.{is_taken_function, guard_name, stack_name, is_taken_in};
 ghost use Rattle.functions.specs.function_text.Names.{written_name};
 
+use crate::library_names::{
+    is_macro_name, is_number_name, is_system_name, is_text_name, is_thread_name,
+};
 use std::alloc::{AllocError, Global};
 
 /// Keywords of C11, those that GNU C adds, and what `<stdbool.h>` defines.
@@ -152,9 +156,19 @@ fn is_integers(name: &[u8]) -> bool
             && (name.ends_with(b"_MIN") || name.ends_with(b"_MAX") || name.ends_with(b"_C")))
 }
 
-/// Whether C, C++ or an assembler cannot take a name for a function.
+/// Whether `<inttypes.h>` defines it as a format of integers, as `PRIx32`.
+#[tactic(auto, unfolding(crate::specs::function_text::Names::is_format))]
+fn is_format(name: &[u8]) -> bool
+    ensures { result ≡ is_format name.now }
+{
+    name.len() >= 4
+        && (name.starts_with(b"PRI") || name.starts_with(b"SCN"))
+        && (name[3].is_ascii_lowercase() || name[3] == b'X')
+}
+
+/// Whether C, C++ or an assembler cannot take a name, be it a function's or a parameter's.
 #[tactic(auto, unfolding(crate::specs::function_text::Names::is_taken_name))]
-pub fn is_taken_name(name: &str) -> bool
+fn is_taken_name(name: &str) -> bool
     ensures { result ≡ is_taken_name name.now }
 {
     is_c_word(name)
@@ -163,6 +177,24 @@ pub fn is_taken_name(name: &str) -> bool
         || is_other_word(name)
         || is_compilers(name.as_bytes())
         || is_integers(name.as_bytes())
+        || is_format(name.as_bytes())
+        || is_macro_name(name)
+}
+
+/// Whether C's library has a name, other than as a macro without arguments.
+#[tactic(auto, unfolding(crate::specs::function_text::Names::is_library_name))]
+fn is_library_name(name: &str) -> bool
+    ensures { result ≡ is_library_name name.now }
+{
+    is_number_name(name) || is_text_name(name) || is_system_name(name) || is_thread_name(name)
+}
+
+/// Whether C, its library, C++ or an assembler cannot take a name for a function.
+#[tactic(auto, unfolding(crate::specs::function_text::Names::is_taken_function))]
+pub fn is_taken_function(name: &str) -> bool
+    ensures { result ≡ is_taken_function name.now }
+{
+    is_taken_name(name) || is_library_name(name)
 }
 
 /// The macros that the header of a function defines.

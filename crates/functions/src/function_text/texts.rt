@@ -9,6 +9,7 @@ use crate::function_text::assembler::assembler_text;
 use crate::function_text::fault::FunctionFault;
 use crate::function_text::function::function_of;
 use crate::function_text::header::header_text;
+use crate::function_text::notation::Notation;
 use hepurita::Optimisation;
 use language::{Profile, Refusal};
 use std::alloc::Global;
@@ -22,20 +23,24 @@ pub struct Texts {
     pub header: String,
 }
 
-/// Both texts of the function of a source, for an observer of this profile, with plain or optimised code. A source that
-/// is not accepted is refused as by `compile_with`, then an export's name that C, C++ or an assembler cannot take.
+/// Both texts of the function of a source, for an observer of this profile, with plain or optimised code; its name is
+/// the export's behind a prefix. A source that is not accepted is refused as by `compile_with`, then a name that C, its
+/// library, C++ or an assembler cannot take.
 pub fn texts_of(
     alloc: Global,
     source: &str,
     profile: Profile,
     optimisation: Optimisation,
+    prefix: &str,
+    notation: Notation,
 ) -> Result<Texts, FunctionFault<Refusal>>
     ensures made { IfOk result (λ texts.
-        AreTextsOf optimisation profile source.now (string_bytes texts.assembler) (string_bytes texts.header)) }
-    ensures fault { IfErr result (IsFaultOf profile source.now) }
+        AreTextsOf optimisation profile prefix.now notation source.now (string_bytes texts.assembler)
+        (string_bytes texts.header)) }
+    ensures fault { IfErr result (IsFaultOf profile prefix.now source.now) }
 {
-    let function = function_of(alloc, source, profile, optimisation)?;
-    let assembler = assembler_text(alloc, &function)?;
+    let function = function_of(alloc, source, profile, optimisation, prefix)?;
+    let assembler = assembler_text(alloc, &function, notation)?;
     let header = header_text(alloc, &function)?;
     Ok(Texts { assembler, header })
 }

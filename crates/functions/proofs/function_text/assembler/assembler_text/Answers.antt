@@ -5,8 +5,9 @@ use Rattle.functions.proofs.function_text.assembler.assembler_text.Goals as goal
 
 pub returns : goal.returns
 returns c =
-    assembled (parts_of c.args.function.now) (string_bytes c.new-text.result) (string_bytes c.push_head.new.text)
-    (string_bytes c.push_entry.new.text)
-    (string_bytes c.push_body.new.text) (string_bytes c.push_exit.new.text) (string_bytes c.push_tail.new.text)
-    c.new-text.ensures.bytes c.in_ok-push_head.ensures c.in_ok-push_entry.ensures c.in_ok-push_body.ensures
-    c.in_ok-push_exit.ensures c.in_ok-push_tail.ensures
+    assembled c.args.notation (parts_of c.args.function.now) (string_bytes c.new-text.result)
+    (string_bytes c.push_head.new.text) (string_bytes c.push_entry.new.text) (string_bytes c.push_body.new.text)
+    (string_bytes c.push_exit.new.text) (string_bytes c.push_tail.new.text) c.in_ok-body_start.body_start
+    c.in_ok-exit_start.exit_start c.new-text.ensures.bytes c.in_ok-push_head.ensures
+    c.in_ok-body_start.ensures.written c.in_ok-body_start.ensures.ends c.in_ok-exit_start.ensures.written
+    c.in_ok-exit_start.ensures.ends c.in_ok-push_exit.ensures c.in_ok-push_tail.ensures

@@ -10,12 +10,11 @@ returns-clause-made c =
     record {
       image = c.into_fields.ensures;
       needs_are = refl;
-      name = c.in_ok-name.ensures ∙ c.as_str-text.ensures;
+      named = c.in_ok-name.ensures;
       free = c.requires;
       parameters =
           c.in_ok-parameters.ensures
-          ∙ ap (λ (name : List ℕ). map (written_parameter name) (map parameter_tree given))
-          (c.in_ok-macros.ensures ∙ c.as_str-text.ensures)
-          ∙ ap (λ (ps : List Parameter). map (written_parameter c.args.export.now.name) (map parameter_tree ps))
+          ∙ ap (λ (name : List ℕ). map (written_parameter name) (map parameter_tree given)) c.in_ok-macros.ensures
+          ∙ ap (λ (ps : List Parameter). map (written_parameter c.args.name.now) (map parameter_tree ps))
           c.as_slice.ensures.value;
     }
