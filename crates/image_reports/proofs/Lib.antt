@@ -1,3 +1,4 @@
+pub mod certificate_explanations_lemmas
 pub mod certificates_lemmas
 pub mod image_pictures_lemmas
 pub mod pair_explanations_lemmas

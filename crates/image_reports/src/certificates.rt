@@ -18,5 +18,6 @@ pub use laws::{
     certificates_hold, certifications_agree, known_images_cover,
     pairs_and_listings_are_as_certified,
 };
+pub(crate) use loading::argument_bytes;
 pub use loading::{Loaded, load_given};
 pub use reading::read_given;

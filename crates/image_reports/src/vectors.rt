@@ -18,5 +18,5 @@ mod wanted;
 pub use fault::VectorsFault;
 pub use laws::verdicts_are_exact;
 pub use lines::Vector;
-pub use reading::read;
+pub use reading::{LONGEST_VECTORS, read};
 pub use trying::{Report, try_vectors};

@@ -1,6 +1,9 @@
 pub mod Constants
 pub mod Marks
 pub mod Grid
+pub mod Hover
 pub mod Page
+pub mod Parting
 pub mod Pictured
+pub mod Titles
 pub mod private

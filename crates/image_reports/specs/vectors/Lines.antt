@@ -5,6 +5,10 @@ use Rattle.std.specs.List.{filter, list_all, position, slice_split, starts_with}
 use Rattle.std.specs.Option.{option_map, option_and_then}
 use Rattle.std.specs.Str.Lines.{lines}
 
+-- how many bytes a text of vectors has at most
+abbrev pub longest_vectors : ℕ
+longest_vectors = 4194304
+
 -- a vector: its name, the texts of arguments, and those of the outcome that they have to give
 pub record NamedVector : Type 0 where
   pub name : List ℕ

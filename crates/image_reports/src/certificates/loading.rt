@@ -21,7 +21,7 @@ use std::alloc::{AllocError, Global};
 const EACH_BIT: u32 = 0xff;
 
 /// How many bytes from its slot's offset on an argument takes.
-fn argument_bytes(param: Param) -> u32
+pub(crate) fn argument_bytes(param: Param) -> u32
     ensures { result ≡ argument_bytes param.form param.kind param.length }
 {
     match param.form {
@@ -104,6 +104,7 @@ pub fn load_given(
     ensures extent { IfOk result (λ loaded. (a : ℕ)
         → is_some (paged_bytes loaded.known.marks a) ≡ is_some (paged_bytes loaded.run.memory a)) }
     ensures steps { IfOk result (λ loaded. loaded.run.steps_left ≡ image.now.max_steps) }
+    ensures few { IfOk result (λ loaded. loaded.run.steps_left < 2 ^ 62) }
 {
     let mut memory = frame(alloc, image)?;
     put_given(&mut memory, FRAME_BASE, image.slots(), given);

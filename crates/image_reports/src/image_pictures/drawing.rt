@@ -15,40 +15,61 @@ use run_reports::pictures::{Area, Drawing, PairOfRuns, picture};
 use rv_machine::PagedMemory;
 use std::alloc::{AllocError, Global};
 
-/// The page of the one run of an image in which 0 stands for each argument that is not given, with this said of it. The
-/// arguments that are given have no fault.
+/// What a page says of its runs: what was asked for, what is said of them, and whether they are two, or one in both
+/// places.
+#[derive(Clone, Copy)]
+struct Caption<'a> {
+    asked: &'a str,
+    said: &'a [u8],
+    are_two: bool,
+}
+
+/// The page of the one run of an image in which 0 stands for each argument that is not given, with what was asked for
+/// and with this said of it. The arguments that are given have no fault.
 pub fn picture_of_given(
     alloc: Global,
     image: &Image,
     given: &[Option<Arg>],
+    asked: &str,
     said: &[u8],
 ) -> Result<Vec<u8>, AllocError>
     requires allowed { IsImage image.now }
     requires faultless { fault_of_given (params_of image.now) given.now ≡ None }
-    ensures exact { IfOk result (λ page. DrawsOne image.now given.now said.now page.items) }
+    ensures exact { IfOk result (λ page. DrawsOne image.now given.now asked.now said.now page.items) }
 {
     let mut counted = both_of_given(alloc, image, given)?;
     let mut drawn = both_of_given(alloc, image, given)?;
-    draw(alloc, image, &mut counted, &mut drawn, said, false)
+    let caption = Caption {
+        asked,
+        said,
+        are_two: false,
+    };
+    draw(alloc, image, &mut counted, &mut drawn, &caption)
 }
 
-/// The page of two runs of an image over each other, on two lists of arguments within its parameter types, with this
-/// said of them.
+/// The page of two runs of an image over each other, on two lists of arguments within its parameter types, with what
+/// was asked for and with this said of them.
 pub fn picture_of_pair(
     alloc: Global,
     image: &Image,
     one: &Args,
     other: &Args,
+    asked: &str,
     said: &[u8],
 ) -> Result<Vec<u8>, AllocError>
     requires allowed { IsImage image.now }
     requires one { AreWithin (params_of image.now) one.now }
     requires other { AreWithin (params_of image.now) other.now }
-    ensures exact { IfOk result (λ page. DrawsTwo image.now one.now other.now said.now page.items) }
+    ensures exact { IfOk result (λ page. DrawsTwo image.now one.now other.now asked.now said.now page.items) }
 {
     let mut counted = both_of_args(alloc, image, one, other)?;
     let mut drawn = both_of_args(alloc, image, one, other)?;
-    draw(alloc, image, &mut counted, &mut drawn, said, true)
+    let caption = Caption {
+        asked,
+        said,
+        are_two: true,
+    };
+    draw(alloc, image, &mut counted, &mut drawn, &caption)
 }
 
 /// The run with zeros for what is not given, twice.
@@ -95,8 +116,7 @@ fn draw(
     image: &Image,
     counted: &mut PairOfRuns<PagedMemory>,
     drawn: &mut PairOfRuns<PagedMemory>,
-    said: &[u8],
-    are_two: bool,
+    caption: &Caption<'_>,
 ) -> Result<Vec<u8>, AllocError>
     requires allowed { IsImage image.now }
     requires one { BeginsAt image.now (state_of drawn.old.one.hart (paged_bytes drawn.old.one.memory))
@@ -108,7 +128,7 @@ fn draw(
     ensures { IfOk result (λ page. DrawsImage image.now
         (state_of drawn.old.one.hart (paged_bytes drawn.old.one.memory))
         (state_of drawn.old.other.hart (paged_bytes drawn.old.other.memory))
-        said.now are_two page.items) }
+        caption.now.asked.now caption.now.said.now caption.now.are_two page.items) }
 {
     let code = code(alloc, image)?;
     let drawing = Drawing {
@@ -120,8 +140,9 @@ fn draw(
             base: FRAME_BASE,
             words: image.frame_bytes() / 4,
         },
-        said,
-        are_two,
+        asked: caption.asked,
+        said: caption.said,
+        are_two: caption.are_two,
     };
     picture(alloc, &code, counted, drawn, &drawing)
 }

@@ -12,6 +12,8 @@ use std::fmt;
 pub enum VectorsFault {
     /// The first line, counted from 1, that has not the form of a vector.
     Line { line: usize },
+    /// It has more bytes than `LONGEST_VECTORS`.
+    TooLong,
     /// A growth was refused.
     Memory,
 }
@@ -32,7 +34,7 @@ impl<T: Drop> From<AllocFailed<T>> for VectorsFault {
     }
 }
 
-/// `V1 at line 3: line form`, or `M1: memory`.
+/// `V1 at line 3: line form`, `V2: text too long`, or `M1: memory`.
 impl fmt::Display for VectorsFault {
     ghost use Rattle.std.specs.Prelude.{Some};
     ghost use Rattle.image_reports.specs.vectors.FaultText.{vectors_fault_text};
@@ -42,6 +44,7 @@ impl fmt::Display for VectorsFault {
     fn fmt<W: fmt::Write>(&self, f: &mut fmt::Formatter<W>) -> fmt::Result {
         match *self {
             VectorsFault::Line { line } => write!(f, "V1 at line {line}: line form"),
+            VectorsFault::TooLong => write!(f, "V2: text too long"),
             VectorsFault::Memory => write!(f, "{}", Refusal::memory()),
         }
     }

@@ -1,21 +1,25 @@
 -- How long a page is at most.
 use Rattle.std.proofs.Common.{◌≡◌, ℕ, zero, suc, ◌+◌, ◌*◌, ◌/◌, ◌%◌, ◌-◌, ◌==◌, ◌≤◌, ◌<◌, ◌^◌, ◌&&◌, Bool, true, false}
-use Rattle.std.proofs.Common.{not, cond, take, drop, List, [], ◌∷◌, ◌++◌, length, length-append, replicate, codes, refl}
+use Rattle.std.proofs.Common.{Option, Some, None, nat_lt, not, cond, take, drop, List, [], ◌∷◌, ◌++◌, length, length-append, replicate, codes, refl}
 use Rattle.std.proofs.Common.{ap, arith}
 use Rattle.std.proofs.lemmas.List.{length-replicate, length-take, length-drop}
 use Rattle.std.proofs.lemmas.Fmt.{length-decimal-le}
 use Rattle.std.specs.Fmt.{decimal, digits, format_spec}
 use Rattle.std.below.core.proofs.fmt.Padding.{padded_integral_zeros}
 use Rattle.std.below.core.specs.Fmt.{digits_onto, digit_glyph}
-use Rattle.run_reports.specs.pictures.Constants.{front, legend, legend_of_two}
-use Rattle.run_reports.specs.pictures.Grid.{most_columns, most_rows, places_used}
+use Rattle.run_reports.specs.pictures.Constants.{front, before_asked, before_said, legend, legend_of_two}
+use Rattle.run_reports.specs.pictures.Grid.{most_columns, most_rows}
+use Rattle.run_reports.specs.pictures.Hover.{addresses_text, eight_digits, first_in, held_text, hover_text, hovers_text}
+use Rattle.run_reports.specs.pictures.Hover.{is_blank, last_in, span_text, when}
 use Rattle.run_reports.specs.pictures.Page.{cell_text, holds, class_of, all_layers, cells_text, layer_text, layers_text}
-use Rattle.run_reports.specs.pictures.Page.{eight_digits, drawing_text, axis_text, area_text, elsewhere_text}
-use Rattle.run_reports.specs.pictures.Page.{code_cells, frame_cells, other_cells, drawings_text, steps_text, scale_text}
-use Rattle.run_reports.specs.pictures.Page.{legend_text, rest_text, page_text}
+use Rattle.run_reports.specs.pictures.Page.{rows_of, parting_line, drawing_text, entries_text, axis_text, area_text}
+use Rattle.run_reports.specs.pictures.Page.{elsewhere_text, code_cells, frame_cells, other_cells, drawings_text}
+use Rattle.run_reports.specs.pictures.Page.{steps_text, parted_text, scale_text, legend_text, rest_text, page_text}
+use Rattle.run_reports.specs.pictures.Titles.{escaped, escaped_byte}
 use Rattle.run_reports.specs.declared.pictures.cells.Area.{Area}
 use Rattle.run_reports.specs.declared.pictures.cells.Axes.{Axes}
 use Rattle.run_reports.specs.declared.pictures.cells.Cell.{Cell}
+use Rattle.run_reports.specs.declared.pictures.cells.Told.{Told}
 use Rattle.run_reports.specs.declared.pictures.layers.Layer.{Layer}
 use Rattle.run_reports.specs.declared.pictures.layers.Layer.TheVariants.{Fetched, Loaded, Stored, LoadedAndStored}
 use Rattle.run_reports.specs.declared.pictures.layers.Layer.TheVariants.{OneDiffers, OtherDiffers}
@@ -51,9 +55,64 @@ eight a =
     let many : length zeros ≡ 8 - length numeral = length-replicate (8 - length numeral) glyph in
     omega (arith, short_hexadecimal a, ap length filled, length-append zeros numeral, many)
 
-axis_size : (steps : ℕ) → length (axis_text steps) ≤ 300
+entries_size : (told : Told) → length (entries_text told) ≤ 180
+unfolding entries_text
+entries_size told =
+    either told.are_two _ _ 180 (grind (arith, length-append, short)) (grind (arith, length-append, short))
+
+axis_size : (steps : ℕ) (told : Told) → length (axis_text steps told) ≤ 480
 unfolding axis_text
-axis_size steps = grind (arith, length-append, short)
+axis_size steps told = grind (arith, length-append, short, entries_size)
+
+span_size : (first last : ℕ) → length (span_text first last) ≤ 138
+span_size first last =
+    either (first == last) _ _ 138 (grind (arith, length-append, short)) (grind (arith, length-append, short))
+
+addresses_size : (area : Option Area) (row : ℕ) → length (addresses_text area row) ≤ 150
+addresses_size (Some area) row = grind (arith, length-append, eight)
+addresses_size None row = omega arith
+
+when_size : (holds : Bool) (words : List ℕ) → length (when holds words) ≤ length words
+when_size true words = omega arith
+when_size false words = omega arith
+
+held_size : (cell : Cell) → length (held_text cell) ≤ 72
+held_size cell =
+    let executed = when_size cell.fetched (codes ", executed") in
+    let load = when_size cell.loaded (codes ", load") in
+    let store = when_size cell.stored (codes ", store") in
+    let first = when_size cell.one_differs (codes ", in the first run alone") in
+    let second = when_size cell.other_differs (codes ", in the second run alone") in
+    grind (arith, length-append, executed, load, store, first, second)
+
+hover_size : (steps : ℕ) (area : Option Area) (number : ℕ) (cell : Cell)
+    → length (hover_text steps area number cell) ≤ 530
+hover_size steps area number cell =
+    let column = number % most_columns in
+    let span = span_size (first_in steps most_columns column) (last_in steps most_columns column) in
+    let addresses = addresses_size area (number / most_columns) in
+    let held = held_size cell in
+    grind (arith, length-append, short, span, addresses, held)
+
+hovers_size : (steps : ℕ) (area : Option Area) (number : ℕ) (cells : List Cell)
+    → length (hovers_text steps area number cells) ≤ 530 * length cells
+hovers_size steps area number [] = omega arith
+hovers_size steps area number (cell ∷ cells) =
+    let here : List ℕ = cond (is_blank cell) [] (hover_text steps area number cell) in
+    let small : length here ≤ 530 =
+    either (is_blank cell) [] (hover_text steps area number cell) 530 (omega arith)
+    (hover_size steps area number cell) in
+    omega (
+      arith,
+      small,
+      length-append here (hovers_text steps area (number + 1) cells),
+      hovers_size steps area (number + 1) cells,
+    )
+
+parting_size : (steps rows : ℕ) (parting : Option ℕ) → length (parting_line steps rows parting) ≤ 180
+unfolding parting_line
+parting_size steps rows None = omega arith
+parting_size steps rows (Some step) = grind (arith, length-append, short)
 
 cell_size : (number : ℕ) → number < 33024 → length (cell_text number) ≤ 10
 cell_size number few = grind (arith, length-append, length-decimal-le 3)
@@ -145,28 +204,29 @@ layers_size cells few =
       line_size cells,
     )
 
-drawing_size : (name : List ℕ) (columns rows : ℕ) (cells : List Cell) → length cells ≤ 33024
-    → length (drawing_text name columns rows cells) ≤ 30 * length cells + length name + 400
+drawing_size : (name : List ℕ) (area : Option Area) (steps : ℕ) (parting : Option ℕ) (cells : List Cell)
+    → length cells ≤ 33024
+    → length (drawing_text name area steps parting cells) ≤ 560 * length cells + length name + 700
 unfolding drawing_text
-drawing_size name columns rows cells few = grind (arith, length-append, short, layers_size cells few)
+drawing_size name area steps parting cells few =
+    let layers = layers_size cells few in
+    let line = parting_size steps (rows_of area) parting in
+    let hovers = hovers_size steps area 0 cells in
+    grind (arith, length-append, short, layers, line, hovers)
 
-area_size : (name : List ℕ) (area : Area) (steps : ℕ) (cells : List Cell) → length cells ≤ 33024
-    → length (area_text name area steps cells) ≤ 30 * length cells + length name + 1_000
+area_size : (name : List ℕ) (area : Area) (steps : ℕ) (told : Told) (cells : List Cell) → length cells ≤ 33024
+    → length (area_text name area steps told cells) ≤ 560 * length cells + length name + 1_500
 unfolding area_text
-area_size name area steps cells few =
-    grind (
-      arith,
-      length-append,
-      eight,
-      axis_size,
-      drawing_size name (places_used steps most_columns) (places_used area.words most_rows) cells few,
-    )
+area_size name area steps told cells few =
+    let drawing = drawing_size name (Some area) steps told.parting cells few in
+    grind (arith, length-append, eight, axis_size, drawing)
 
-elsewhere_size : (steps : ℕ) (cells : List Cell) → length cells ≤ 33024
-    → length (elsewhere_text steps cells) ≤ 30 * length cells + 500
+elsewhere_size : (steps : ℕ) (parting : Option ℕ) (cells : List Cell) → length cells ≤ 33024
+    → length (elsewhere_text steps parting cells) ≤ 560 * length cells + 800
 unfolding elsewhere_text
-elsewhere_size steps cells few =
-    grind (arith, length-append, drawing_size (codes "elsewhere") (places_used steps most_columns) 1 cells few)
+elsewhere_size steps parting cells few =
+    let drawing = drawing_size (codes "elsewhere") None steps parting cells few in
+    grind (arith, length-append, drawing)
 
 -- a list in three parts
 three_parts : (n : ℕ) (cells : List Cell)
@@ -179,24 +239,30 @@ three_parts n cells = omega (
   length-drop n (drop n cells),
 )
 
-drawings_size : (axes : Axes) (cells : List Cell) → length cells ≡ 33024 → length (drawings_text axes cells) ≤ 994_000
+drawings_size : (axes : Axes) (cells : List Cell) (told : Told) → length cells ≡ 33024
+    → length (drawings_text axes cells told) ≤ 18_500_000
 unfolding drawings_text
-drawings_size axes cells all =
+drawings_size axes cells told all =
     let parts = three_parts (most_rows * most_columns) cells in
     grind (
       arith,
       length-append,
       all,
       parts,
-      area_size (codes "frame") axes.frame axes.steps (frame_cells cells) (omega (arith, parts, all)),
-      area_size (codes "code") axes.code axes.steps (code_cells cells) (omega (arith, parts, all)),
-      elsewhere_size axes.steps (other_cells cells) (omega (arith, parts, all)),
+      area_size (codes "frame") axes.frame axes.steps told (frame_cells cells) (omega (arith, parts, all)),
+      area_size (codes "code") axes.code axes.steps told (code_cells cells) (omega (arith, parts, all)),
+      elsewhere_size axes.steps told.parting (other_cells cells) (omega (arith, parts, all)),
     )
 
-steps_size : (are_two : Bool) (one other : ℕ) → length (steps_text are_two one other) ≤ 300
+steps_size : (told : Told) → length (steps_text told) ≤ 300
 unfolding steps_text
-steps_size true one other = grind (arith, length-append, short)
-steps_size false one other = grind (arith, length-append, short)
+steps_size told =
+    either told.are_two _ _ 300 (grind (arith, length-append, short)) (grind (arith, length-append, short))
+
+parted_size : (parting : Option ℕ) → length (parted_text parting) ≤ 200
+unfolding parted_text
+parted_size None = omega arith
+parted_size (Some step) = grind (arith, length-append, short)
 
 scale_size : (axes : Axes) → length (scale_text axes) ≤ 400
 unfolding scale_text
@@ -207,25 +273,46 @@ unfolding legend_text legend legend_of_two
 legend_size true = omega arith
 legend_size false = omega arith
 
-front_size : length front ≤ 3_000
+front_size : length front ≤ 500
 unfolding front
 front_size = omega arith
 
-rest_size : (axes : Axes) (cells : List Cell) (are_two : Bool) (one other : ℕ) → length cells ≡ 33024
-    → length (rest_text axes cells are_two one other) ≤ 996_000
-unfolding rest_text
-rest_size axes cells are_two one other all =
-    grind (
-      arith,
-      length-append,
-      legend_size are_two,
-      steps_size are_two one other,
-      scale_size axes,
-      drawings_size axes cells all,
-    )
+before_asked_size : length before_asked ≤ 4_000
+unfolding before_asked
+before_asked_size = omega arith
 
-pub page_size : (axes : Axes) (cells : List Cell) (said : List ℕ) (are_two : Bool) (one other : ℕ)
-    → length cells ≡ 33024
-    → length (page_text axes cells said are_two one other) ≤ 1_000_000 + length said
-page_size axes cells said are_two one other all =
-    grind (arith, length-append, front_size, rest_size axes cells are_two one other all)
+before_said_size : length before_said ≤ 500
+unfolding before_said
+before_said_size = omega arith
+
+rest_size : (axes : Axes) (cells : List Cell) (told : Told) → length cells ≡ 33024
+    → length (rest_text axes cells told) ≤ 18_600_000
+unfolding rest_text
+rest_size axes cells told all =
+    let legend = legend_size told.are_two in
+    let steps = steps_size told in
+    let entries = entries_size told in
+    let parted = parted_size told.parting in
+    let scale = scale_size axes in
+    let drawings = drawings_size axes cells told all in
+    grind (arith, length-append, legend, steps, entries, parted, scale, drawings)
+
+byte_size : (byte : ℕ) → length (escaped_byte byte) ≤ 6
+byte_size byte =
+    either (byte == 38) _ _ 6 (omega arith)
+    (either (byte == 60) _ _ 6 (omega arith)
+    (either (byte == 62) _ _ 6 (omega arith)
+    (either (byte == 34) _ _ 6 (omega arith)
+    (either (nat_lt byte 32) _ _ 6 (omega arith) (either (byte == 127) _ _ 6 (omega arith) (omega arith))))))
+
+escaped_size : (text : List ℕ) → length (escaped text) ≤ 6 * length text
+escaped_size [] = omega arith
+escaped_size (byte ∷ text) =
+    omega (arith, byte_size byte, escaped_size text, length-append (escaped_byte byte) (escaped text))
+
+pub page_size : (axes : Axes) (cells : List Cell) (asked said : List ℕ) (told : Told) → length cells ≡ 33024
+    → length (page_text axes cells asked said told) ≤ 20_000_000 + length said + 12 * length asked
+page_size axes cells asked said told all =
+    let rest = rest_size axes cells told all in
+    let escaped_asked = escaped_size asked in
+    grind (arith, length-append, front_size, before_asked_size, before_said_size, escaped_asked, rest)

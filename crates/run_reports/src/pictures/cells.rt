@@ -98,3 +98,20 @@ pub struct Axes {
     pub code: Area,
     pub frame: Area,
 }
+
+/// How long a run is: its steps, and the entries that they show.
+#[derive(Clone, Copy)]
+pub struct RunLength {
+    pub steps: u64,
+    pub entries: u64,
+}
+
+/// What is told of runs beside their cells: whether they are two, or one in both places, how long each of them is, and
+/// in which step they first show different things, if they do.
+#[derive(Clone, Copy)]
+pub struct Told {
+    pub are_two: bool,
+    pub one: RunLength,
+    pub other: RunLength,
+    pub parting: Option<u64>,
+}

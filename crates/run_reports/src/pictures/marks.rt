@@ -21,7 +21,7 @@ fn is_same(one: Event, other: Event) -> bool
 }
 
 /// Whether an event is shown.
-fn is_event(event: Event, shown: Option<Event>) -> bool
+pub fn is_event(event: Event, shown: Option<Event>) -> bool
     ensures { result ≡ is_event event shown }
 {
     match shown {

@@ -1,37 +1,41 @@
 // The page of a picture.
 
-ghost use Rattle.std.specs.Prelude.{◌≡◌, ◌≤◌, ◌<◌, ◌^◌, ◌+◌, length, IfOk};
+ghost use Rattle.std.specs.Prelude.{◌≡◌, ◌≤◌, ◌+◌, ◌*◌, length, IfOk};
 ghost use Rattle.std.specs.String.{string_bytes};
-ghost use Rattle.run_reports.specs.pictures.Page.{steps_text, scale_text, legend_text, drawings_text, rest_text};
-ghost use Rattle.run_reports.specs.pictures.Page.{page_text};
+ghost use Rattle.run_reports.specs.pictures.Page.{steps_text, parted_text, scale_text, legend_text, drawings_text};
+ghost use Rattle.run_reports.specs.pictures.Page.{rest_text, page_text};
 
-use crate::pictures::areas::{area_text, elsewhere_text};
-use crate::pictures::cells::Axes;
-use crate::pictures::constants::{front, legend, legend_of_two};
+use crate::pictures::areas::{area_text, elsewhere_text, entries_text};
+use crate::pictures::cells::{Axes, Told};
+use crate::pictures::constants::{before_asked, before_said, front, legend, legend_of_two};
 use crate::pictures::grid::{COLUMNS, Grid, ROWS, share};
+use crate::pictures::titles::push_escaped;
 use std::alloc::{AllocError, Global};
-
-/// How many steps the runs make, and whether they are two runs, or one in both places.
-#[derive(Clone, Copy)]
-pub struct Steps {
-    pub are_two: bool,
-    pub one: u64,
-    pub other: u64,
-}
 
 /// How many steps the runs make.
 #[tactic(auto, unfolding(crate::specs::pictures::Page::steps_text))]
-fn steps_text(alloc: Global, steps: Steps) -> Result<String, AllocError>
-    ensures { IfOk result (λ text. string_bytes text ≡ steps_text steps.are_two steps.one steps.other) }
+fn steps_text(alloc: Global, told: &Told) -> Result<String, AllocError>
+    ensures { IfOk result (λ text. string_bytes text ≡ steps_text told.now) }
 {
-    let one = steps.one;
-    let other = steps.other;
-    if steps.are_two {
+    let one = told.one.steps;
+    let other = told.other.steps;
+    if told.are_two {
         format!(in alloc;
             "<p>Steps: <b id=\"first\">{one}</b> of the first run, <b id=\"second\">{other}</b> of the second. "
         )
     } else {
         format!(in alloc; "<p>Steps: <b id=\"first\">{one}</b>. ")
+    }
+}
+
+/// In which step they part.
+#[tactic(auto, unfolding(crate::specs::pictures::Page::parted_text))]
+fn parted_text(alloc: Global, parting: Option<u64>) -> Result<String, AllocError>
+    ensures { IfOk result (λ text. string_bytes text ≡ parted_text parting) }
+{
+    match parting {
+        Some(step) => format!(in alloc; "They part in step <b id=\"parting\">{step}</b>. "),
+        None => Ok(String::new(alloc)),
     }
 }
 
@@ -62,15 +66,15 @@ fn legend_text(alloc: Global, are_two: bool) -> Result<String, AllocError>
 
 /// Frame, code and other addresses, each with its title.
 #[tactic(auto, unfolding(crate::specs::pictures::Page::drawings_text))]
-fn drawings_text(alloc: Global, grid: &Grid) -> Result<String, AllocError>
-    ensures { IfOk result (λ text. string_bytes text ≡ drawings_text grid.now.axes grid.now.cells.items) }
+fn drawings_text(alloc: Global, grid: &Grid, told: &Told) -> Result<String, AllocError>
+    ensures { IfOk result (λ text. string_bytes text ≡ drawings_text grid.now.axes grid.now.cells.items told.now) }
 {
     let axes = grid.axes;
     let (code, others) = grid.cells.as_slice().split_at((ROWS * COLUMNS) as usize);
     let (frame, elsewhere) = others.split_at((ROWS * COLUMNS) as usize);
-    let frame = area_text(alloc, "frame", axes.frame, axes.steps, frame)?;
-    let code = area_text(alloc, "code", axes.code, axes.steps, code)?;
-    let elsewhere = elsewhere_text(alloc, axes.steps, elsewhere)?;
+    let frame = area_text(alloc, "frame", axes.frame, axes.steps, told, frame)?;
+    let code = area_text(alloc, "code", axes.code, axes.steps, told, code)?;
+    let elsewhere = elsewhere_text(alloc, axes.steps, told.parting, elsewhere)?;
     format!(in alloc;
         "<h2>Frame</h2>\n{frame}<h2>Code</h2>\n{code}<h2>Other addresses</h2>\n{elsewhere}"
     )
@@ -78,25 +82,41 @@ fn drawings_text(alloc: Global, grid: &Grid) -> Result<String, AllocError>
 
 /// What stands behind what is said of the runs.
 #[tactic(auto, unfolding(crate::specs::pictures::Page::rest_text))]
-fn rest_text(alloc: Global, grid: &Grid, steps: Steps) -> Result<String, AllocError>
+fn rest_text(alloc: Global, grid: &Grid, told: &Told) -> Result<String, AllocError>
     ensures { IfOk result (λ text.
-        string_bytes text ≡ rest_text grid.now.axes grid.now.cells.items steps.are_two steps.one steps.other) }
+        string_bytes text ≡ rest_text grid.now.axes grid.now.cells.items told.now) }
 {
-    let legend = legend_text(alloc, steps.are_two)?;
-    let steps = steps_text(alloc, steps)?;
+    let legend = legend_text(alloc, told.are_two)?;
+    let steps = steps_text(alloc, told)?;
+    let entries = entries_text(alloc, told)?;
+    let parted = parted_text(alloc, told.parting)?;
     let scale = scale_text(alloc, &grid.axes)?;
-    let drawings = drawings_text(alloc, grid)?;
-    format!(in alloc; "</pre>\n<ul>\n{legend}</ul>\n{steps}{scale}{drawings}</body>\n</html>\n")
+    let drawings = drawings_text(alloc, grid, told)?;
+    format!(in alloc;
+        "</pre>\n<ul>\n{legend}</ul>\n{steps}Entries: <b id=\"entries\">{entries}</b>. {parted}{scale}{drawings}\
+         </body>\n</html>\n"
+    )
 }
 
-/// The page of a grid, with what is said of the runs.
-pub fn page(alloc: Global, grid: &Grid, said: &[u8], steps: Steps) -> Result<Vec<u8>, AllocError>
+/// The page of a grid, with what was asked for, and with what is said and told of the runs.
+pub fn page(
+    alloc: Global,
+    grid: &Grid,
+    asked: &str,
+    said: &[u8],
+    told: &Told,
+) -> Result<Vec<u8>, AllocError>
     ensures exact { IfOk result (λ page.
-        page.items ≡ page_text grid.now.axes grid.now.cells.items said.now steps.are_two steps.one steps.other) }
-    ensures small { IfOk result (λ page. length page.items ≤ 1_000_000 + length said.now) }
+        page.items ≡ page_text grid.now.axes grid.now.cells.items asked.now said.now told.now) }
+    ensures small { IfOk result (λ page.
+        length page.items ≤ 20_000_000 + length said.now + 12 * length asked.now) }
 {
-    let rest = rest_text(alloc, grid, steps)?;
+    let rest = rest_text(alloc, grid, told)?;
     let mut page = Vec::from_slice(alloc, front().as_bytes())?;
+    push_escaped(&mut page, asked.as_bytes())?;
+    page.extend_from_slice(before_asked().as_bytes())?;
+    push_escaped(&mut page, asked.as_bytes())?;
+    page.extend_from_slice(before_said().as_bytes())?;
     page.extend_from_slice(said)?;
     page.extend_from_slice(rest.as_bytes())?;
     Ok(page)

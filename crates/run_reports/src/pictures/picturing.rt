@@ -1,13 +1,13 @@
 // The picture of two runs.
 
-ghost use Rattle.std.specs.Prelude.{◌≡◌, ◌^◌, ◌<◌, ◌≤◌, ◌+◌, length, IfOk};
+ghost use Rattle.std.specs.Prelude.{◌≡◌, ◌^◌, ◌<◌, ◌≤◌, ◌+◌, ◌*◌, length, IfOk};
 ghost use Rattle.run_reports.specs.Below.{code_of, state_of};
 ghost use Rattle.run_reports.specs.pictures.Pictured.{IsPicture};
 
-use crate::pictures::cells::{Area, Axes};
+use crate::pictures::cells::{Area, Axes, Told};
 use crate::pictures::grid::Grid;
-use crate::pictures::page::{Steps, page};
-use crate::pictures::painting::{count_steps, paint};
+use crate::pictures::page::page;
+use crate::pictures::painting::{length_of, paint};
 use rv_machine::{CodeRegion, Memory, Running};
 use std::alloc::{AllocError, Global};
 
@@ -18,12 +18,13 @@ pub struct PairOfRuns<M> {
     pub other: Running<M>,
 }
 
-/// What is drawn of two runs: which addresses code and frame have, what is said of the runs, which stands on the page
-/// as it is, and whether they are two, or one in both places.
+/// What is drawn of two runs: which addresses code and frame have, what was asked for, what is said of the runs, which
+/// stands on the page as it is, and whether they are two, or one in both places.
 #[derive(Clone, Copy)]
 pub struct Drawing<'a> {
     pub code: Area,
     pub frame: Area,
+    pub asked: &'a str,
     pub said: &'a [u8],
     pub are_two: bool,
 }
@@ -47,20 +48,25 @@ pub fn picture<M: Memory>(
     ensures exact { IfOk result (λ page. IsPicture (code_of code.now)
         drawn.old.one.steps_left (state_of drawn.old.one.hart (M.bytes drawn.old.one.memory))
         drawn.old.other.steps_left (state_of drawn.old.other.hart (M.bytes drawn.old.other.memory))
-        drawing.now.code drawing.now.frame drawing.now.said.now drawing.now.are_two page.items) }
-    ensures small { IfOk result (λ page. length page.items ≤ 1_000_000 + length drawing.now.said.now) }
+        drawing.now.code drawing.now.frame drawing.now.asked.now drawing.now.said.now drawing.now.are_two
+        page.items) }
+    ensures small { IfOk result (λ page.
+        length page.items ≤ 20_000_000 + length drawing.now.said.now + 12 * length drawing.now.asked.now) }
 {
-    let steps = Steps {
-        are_two: drawing.are_two,
-        one: count_steps(alloc, code, &mut counted.one),
-        other: count_steps(alloc, code, &mut counted.other),
-    };
+    let one = length_of(alloc, code, &mut counted.one);
+    let other = length_of(alloc, code, &mut counted.other);
     let axes = Axes {
-        steps: steps.one.max(steps.other),
+        steps: one.steps.max(other.steps),
         code: drawing.code,
         frame: drawing.frame,
     };
     let mut grid = Grid::new(alloc, axes)?;
-    paint(alloc, code, &mut drawn.one, &mut drawn.other, &mut grid);
-    page(alloc, &grid, drawing.said, steps)
+    let parting = paint(alloc, code, &mut drawn.one, &mut drawn.other, &mut grid);
+    let told = Told {
+        are_two: drawing.are_two,
+        one,
+        other,
+        parting,
+    };
+    page(alloc, &grid, drawing.asked, drawing.said, &told)
 }

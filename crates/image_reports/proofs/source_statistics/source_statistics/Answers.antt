@@ -5,6 +5,7 @@ use Rattle.image_reports.specs.Below.{code_for, cost_by, exported, flattened, im
 use Rattle.image_reports.specs.Below.{program_tree, ranged, RangedProgram, straight_of, work_cost}
 use Rattle.language.proofs.Handed.{handed_on}
 use Rattle.image_reports.proofs.source_statistics_lemmas.Below.{grammatical_export, same_cost}
+use Rattle.image_reports.specs.source_places.Placed.{numbered_of}
 use Rattle.image_reports.specs.source_statistics.SourceText.{costs_text, export_lines}
 use Rattle.image_reports.proofs.source_statistics.source_statistics.Goals as goal
 
@@ -26,11 +27,11 @@ returns-clause-said c =
     let by_body =
     subst (λ (r : RangedProgram). IfOk c.costs.result
     (λ text. string_bytes text ≡ costs_text r (code_for c.args.optimisation (straight_of r))
-    ++ export_lines (exported [] program.procedures))) counted.0 c.costs.ensures.said in
+    ++ export_lines (numbered_of c.args.libraries.now) (exported [] program.procedures))) counted.0 c.costs.ensures.said in
     let printed =
     subst (λ (o : Option (List ProcedureTree × ProcedureTree)).
     IfOk c.costs.result (λ text. string_bytes text ≡ costs_text body (code_for c.args.optimisation (straight_of body))
-    ++ export_lines o)) is.small.well_formed.is_export by_body in
+    ++ export_lines (numbered_of c.args.libraries.now) o)) is.small.well_formed.is_export by_body in
     IfOk-weaker c.costs.result _ _ (λ text exact. record {
       program = program;
       before = is.before;

@@ -56,3 +56,6 @@ returns-clause-extent c = λ a.
     c.forget_unknown.ensures.extent a
     ∙ (ap (λ (b : ByteMap). is_some (b a)) (marks ∙ sym c.in_ok-memory.ensures)
     ∙ sym (c.put_given.ensures.extent a))
+
+pub returns-clause-few : goal.returns-clause-few
+returns-clause-few c = omega (arith, c.max_steps.ensures.steps, c.slots.ensures.allowed.steps)

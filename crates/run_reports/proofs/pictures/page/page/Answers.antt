@@ -9,10 +9,9 @@ returns-clause-exact c = grind (arith, common_steps)
 pub returns-clause-small : goal.returns-clause-small
 returns-clause-small c =
     let grid = c.args.grid.now in
-    let steps = c.args.steps in
     let all : length grid.cells.items ≡ 33024 = omega arith in
     omega (
       arith,
       ap length (returns-clause-exact c),
-      page_size grid.axes grid.cells.items c.args.said.now steps.are_two steps.one steps.other all,
+      page_size grid.axes grid.cells.items c.args.asked.now c.args.said.now c.args.told.now all,
     )

@@ -24,7 +24,7 @@ steps-preserved g c =
       | else-is_none-via-else-is_none w ↦ λ h. some_shown c.step-seen.result w.if-is_none.ensures h.0
     ] in
     record {
-      painted = paint_on c.step-seen.result c.step-seen_other.result c.steps.invariant.painted adds
+      painted = paint_on c.step-seen.result c.step-seen_other.result c.steps.invariant.painted c.parting_at-parting.ensures adds
           c.step-seen.ensures.shown
           c.step-seen_other.ensures.shown c.step-seen.ensures.ended c.step-seen_other.ensures.ended some;
       few =

@@ -13,7 +13,7 @@ invariant-steps g l =
           (state_of l.one.hart (bytes l.one.memory))
           l.fn.other.steps_left (state_of l.fn.other.hart (bytes l.fn.other.memory)) l.other.steps_left
           (state_of l.other.hart (bytes l.other.memory))
-          l.step l.grid.cells.items;
+          l.step l.parting l.grid.cells.items;
       few : l.step + l.one.steps_left + l.other.steps_left ≤ l.fn.one.steps_left + l.fn.other.steps_left;
       axes : l.grid.axes ≡ l.fn.grid.axes;
     }

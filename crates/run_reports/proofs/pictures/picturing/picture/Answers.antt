@@ -5,15 +5,15 @@ use Rattle.run_reports.proofs.pictures.picturing.picture.Goals as goal
 
 pub returns-clause-exact : goal.returns-clause-exact
 returns-clause-exact g c =
-    let painted = c.paint.ensures.painted in
-    let one = counted_again c.requires.steps.0 c.requires.one c.count_steps.ensures.counted painted.2 in
-    let other = counted_again c.requires.steps.1 c.requires.other c.count_steps-2.ensures.counted painted.3 in
+    let painted = c.paint-parting.ensures.painted in
+    let one = counted_again c.requires.steps.0 c.requires.one c.length_of-one.ensures.counted painted.2 in
+    let other = counted_again c.requires.steps.1 c.requires.other c.length_of-other.ensures.counted painted.3 in
     IfOk-weaker c.page.result _ _
     (λ page written. record {
       seen = painted.0;
       seen' = painted.1;
       shown = painted.2;
       shown' = painted.3;
-      drawn = depicted one other c.max.ensures c.in_ok-grid.ensures.0 c.paint.ensures.axes painted.4 written;
+      drawn = depicted one other c.max.ensures c.in_ok-grid.ensures.0 c.paint-parting.ensures.axes painted.4 painted.5 written;
     })
     c.page.ensures.exact

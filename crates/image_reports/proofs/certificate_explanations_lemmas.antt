@@ -1,0 +1,3 @@
+pub mod Explaining
+pub mod Places
+pub mod Standing

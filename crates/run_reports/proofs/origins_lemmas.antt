@@ -1,0 +1,3 @@
+pub mod Kept
+pub mod Made
+pub mod Steps
