@@ -4,7 +4,7 @@ use Rattle.std.proofs.Common.{◌≡◌, ◌≢◌, ℕ, Bool, true, false, List
 use Rattle.commands.specs.Contents.{Store, failed, failed_times}
 use Rattle.commands.specs.FaultText.{fault_status}
 use Rattle.commands.specs.Failures.{IsReadBy, IsReadOrPrinted, failures_by, CountsFailures, of_files, of_output}
-use Rattle.commands.specs.Judged.{Tells, IsExplained, IsExplainedIn, TellsIn, plainly, with_lines, without_memory}
+use Rattle.commands.specs.Judged.{IsExplainedIn, TellsIn, plainly, with_lines, without_memory}
 use Rattle.commands.specs.Sources.{IsToldIn, standing}
 use Rattle.commands.specs.Leaks.{IsOutputFault}
 use Rattle.commands.specs.Requests.{EndsByStatus, calm, files_failed, output_failed}
@@ -32,36 +32,10 @@ memory_calm (Plan why) memory same = same
 memory_calm (Harts why) memory same = same
 memory_calm (Vectors why) memory same = same
 memory_calm (Code rule) memory same = same
-memory_calm (Name place) memory same = same
+memory_calm (Name name) memory same = same
 memory_calm (Elf why) memory same = same
 memory_calm (Unmet rule word) memory same = same
 memory_calm (File file) memory same = absurd memory
-
-pub explained_calm : (source : List ℕ) (refusal : Refusal) (fault : Fault) {before after : Store}
-    → IsExplained source refusal fault → after ≡ before → IsReadBy fault before after
-explained_calm source refusal (Text told) is same = same
-explained_calm source refusal (Explained told lines) is same = same
-explained_calm source refusal (InLibrary path told) is same = absurd is
-explained_calm source refusal (ExplainedInLibrary path told lines) is same = absurd is
-explained_calm source refusal (Image why) is same = same
-explained_calm source refusal (Run why) is same = same
-explained_calm source refusal (Eval why) is same = same
-explained_calm source refusal (Plan why) is same = same
-explained_calm source refusal (Harts why) is same = same
-explained_calm source refusal (Vectors why) is same = same
-explained_calm source refusal (Code rule) is same = same
-explained_calm source refusal (Name place) is same = same
-explained_calm source refusal (Elf why) is same = same
-explained_calm source refusal (Unmet rule word) is same = same
-explained_calm source refusal (File file) is same = absurd is
-
--- where a source is refused, explained or not, none did
-pub told_calm : (explain : Bool) (source : List ℕ) (refusal : Refusal) (fault : Fault) {before after : Store}
-    → Tells explain source refusal fault → after ≡ before → IsReadBy fault before after
-told_calm false source refusal fault {before} {after} is same =
-    subst (λ (f : Fault). IsReadBy f before after) (sym is) same
-told_calm true source refusal fault (inl memory) same = memory_calm fault memory same
-told_calm true source refusal fault (inr is) same = explained_calm source refusal fault is same
 
 -- and where the text of libraries and a file is refused
 pub in_calm : (library : Option (List ℕ)) (refusal : Refusal) (fault : Fault) {before after : Store}
@@ -77,7 +51,7 @@ in_calm library refusal (Plan why) is same = same
 in_calm library refusal (Harts why) is same = same
 in_calm library refusal (Vectors why) is same = same
 in_calm library refusal (Code rule) is same = same
-in_calm library refusal (Name place) is same = same
+in_calm library refusal (Name name) is same = same
 in_calm library refusal (Elf why) is same = same
 in_calm library refusal (Unmet rule word) is same = same
 in_calm None refusal (File file) is same = absurd is
@@ -96,7 +70,7 @@ explained_in_calm library refusal below (Plan why) is same = same
 explained_in_calm library refusal below (Harts why) is same = same
 explained_in_calm library refusal below (Vectors why) is same = same
 explained_in_calm library refusal below (Code rule) is same = same
-explained_in_calm library refusal below (Name place) is same = same
+explained_in_calm library refusal below (Name name) is same = same
 explained_in_calm library refusal below (Elf why) is same = same
 explained_in_calm library refusal below (Unmet rule word) is same = same
 explained_in_calm None refusal below (File file) is same = absurd is
@@ -124,7 +98,7 @@ counted_by (Plan why) before after read = ap (λ (s : Store). s.failures) read
 counted_by (Harts why) before after read = ap (λ (s : Store). s.failures) read
 counted_by (Vectors why) before after read = ap (λ (s : Store). s.failures) read
 counted_by (Code rule) before after read = ap (λ (s : Store). s.failures) read
-counted_by (Name place) before after read = ap (λ (s : Store). s.failures) read
+counted_by (Name name) before after read = ap (λ (s : Store). s.failures) read
 counted_by (Elf why) before after read = ap (λ (s : Store). s.failures) read
 counted_by (Unmet rule word) before after read = ap (λ (s : Store). s.failures) read
 counted_by (File (CannotRead path)) before after read = ap (λ (s : Store). s.failures) read
@@ -145,7 +119,7 @@ kept_by (Plan why) before after read = ap (λ (s : Store). s.contents) read
 kept_by (Harts why) before after read = ap (λ (s : Store). s.contents) read
 kept_by (Vectors why) before after read = ap (λ (s : Store). s.contents) read
 kept_by (Code rule) before after read = ap (λ (s : Store). s.contents) read
-kept_by (Name place) before after read = ap (λ (s : Store). s.contents) read
+kept_by (Name name) before after read = ap (λ (s : Store). s.contents) read
 kept_by (Elf why) before after read = ap (λ (s : Store). s.contents) read
 kept_by (Unmet rule word) before after read = ap (λ (s : Store). s.contents) read
 kept_by (File (CannotRead path)) before after read = ap (λ (s : Store). s.contents) read
@@ -205,7 +179,7 @@ ends (Plan why) (of_files is same) status = calm is same
 ends (Harts why) (of_files is same) status = calm is same
 ends (Vectors why) (of_files is same) status = calm is same
 ends (Code rule) (of_files is same) status = calm is same
-ends (Name place) (of_files is same) status = calm is same
+ends (Name name) (of_files is same) status = calm is same
 ends (Elf why) (of_files is same) status = calm is same
 ends (Unmet rule word) (of_files is same) status = calm is same
 ends (File (CannotRead path)) (of_files is same) status = files_failed is same status

@@ -5,7 +5,8 @@ use Rattle.std.specs.List.{count_by, sum_by}
 use Rattle.std.proofs.lemmas.Bool.{cases_Bool, cases_lt, false≢true, false_from_ne_true, le-leb, leb-true}
 use Rattle.std.proofs.lemmas.List.{get_or_append_left, get_or-append-add, get_or_past, take-append-le}
 use Rattle.std.proofs.lemmas.List.Sums.{sum_by-append, sum_by-cons, sum_by-take-le}
-use Rattle.commands.specs.Sources.{is_line_feed, joined, LibraryText, line_at, lines_in, numbered, placed, source_at}
+use Rattle.commands.specs.Below.{placed}
+use Rattle.commands.specs.Sources.{is_line_feed, joined, LibraryText, line_at, lines_in, numbered, source_at}
 
 take_past : (xs ys : List ℕ) (n : ℕ) → take (length xs + n) (xs ++ ys) ≡ xs ++ take n ys
 take_past [] ys n = let none : 0 + n ≡ n = omega arith in ap (λ m. take m ys) none

@@ -8,6 +8,7 @@ mod LeakFaults
 pub mod ImageLemmas
 mod Writing
 mod Counting
+mod FunctionFaults
 pub mod StreamCounts
 mod MeasuringLemmas
 mod PictureLemmas

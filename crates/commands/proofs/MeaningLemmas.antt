@@ -1,21 +1,21 @@
 -- What is meant by the text of a file: it holds a program, which is evaluated within the budget.
 use Rattle.std.proofs.Common.{◌≡◌, ◌≢◌, ℕ, List, Result, Ok, Err, refl, ap, ◌∙◌, subst}
 use Rattle.commands.specs.Contents.{Contents}
-use Rattle.commands.specs.FileTexts.{HoldsText}
 use Rattle.commands.specs.Meanings.{HoldsProgram}
+use Rattle.commands.specs.Sources.{IsReadFrom}
 use Rattle.commands.specs.Below.{accepts, EvalFault, Judges, P1, ProcedureTree, ProgramTree, Results}
 use Rattle.source_eval.specs.declared.fault.EvalFault.TheVariants.{Argument, NoMeaning, Budget, Memory}
 
-pub program_held : (files : Contents) (path text judged : List ℕ) (program : ProgramTree)
-    (before : List ProcedureTree) (export : ProcedureTree)
-    → HoldsText files path text → judged ≡ text → Judges P1 judged (accepts program before export)
-    → HoldsProgram files path program export
-program_held files path text judged program before export held same accepted = record {
-  bytes = text;
+pub program_held : {files : Contents} {paths : List (List ℕ)} {path text judged : List ℕ}
+    {by_lines : List (List ℕ × ℕ)} {program : ProgramTree} {before : List ProcedureTree} {export : ProcedureTree}
+    → IsReadFrom files paths path text by_lines → judged ≡ text → Judges P1 judged (accepts program before export)
+    → HoldsProgram files paths path program export
+program_held {program = program} {before} {export} read same accepted = record {
+  libraries = read.libraries;
+  text = read.last;
   before = before;
-  held = held.held;
-  is_text = held.is_text;
-  accepted = subst (λ (t : List ℕ). Judges P1 t (accepts program before export)) same accepted;
+  held = read.holds;
+  accepted = subst (λ (t : List ℕ). Judges P1 t (accepts program before export)) (same ∙ read.is) accepted;
 }
 
 -- an answer of `eval`

@@ -5,15 +5,16 @@ use Rattle.std.specs.Str.{IsUtf8}
 use Rattle.std.proofs.lemmas.List.{length-append, length-take, map-append, map_more, take-append-drop}
 use Rattle.std.proofs.lemmas.List.{take_all}
 use Rattle.std.proofs.lemmas.List.Elements.{All-nil, All-cons, All-append}
-use Rattle.commands.specs.Below.{IsText, Refusal, source_limit}
+use Rattle.commands.specs.Below.{IsRefusalOf, IsText, numbered_of, Profile, Refusal, source_limit}
 use Rattle.commands.specs.Contents.{Contents}
-use Rattle.commands.specs.Judged.{IsExplainedIn, plainly, TellsIn, with_lines, without_memory}
+use Rattle.commands.specs.Judged.{IsExplainedIn, IsRefusedIn, IsRefusedText, plainly, refused_text, TellsIn, with_lines}
+use Rattle.commands.specs.Judged.{without_memory}
 use Rattle.commands.specs.Sources.{AreHeld, by_file, by_library, IsAtLine, IsReadFrom, IsToldIn, joined, LibraryText}
-use Rattle.commands.specs.Sources.{lines_in, NoSources, NoTextBelow, numbered, numbered_of, standing}
+use Rattle.commands.specs.Sources.{lines_in, NoSources, NoTextBelow, numbered, standing}
 use Rattle.commands.specs.Unread.{IsOutOfMemory}
 use Rattle.commands.specs.declared.fault.Fault.{Fault}
-use Rattle.commands.specs.declared.sources.Library.{Library}
 use Rattle.explanations.specs.explained_refusals.Explained.{Explains}
+use Rattle.image_reports.specs.declared.source_places.Library.{Library}
 
 -- libraries that were read: the text that they are together, and how many lines each has
 pub record AreRead (files : Contents) (paths : List (List ℕ)) (text : List ℕ) (by_lines : List (List ℕ × ℕ)) :
@@ -143,15 +144,35 @@ pub paths_all : (all : List (Bor (List ℕ))) (i : ℕ) → length all ≤ i
     → bytes_of_paths (take i all) ≡ bytes_of_paths all
 paths_all all i end = ap bytes_of_paths (take_all i all end)
 
--- what is told of a refusal, by the text and the libraries as they were lent
-pub tells_of : {files : Contents} {paths : List (List ℕ)} {path text lent : List ℕ} {libraries lent_libraries : List Library}
-    {refusal : Refusal} {explain : Bool} {fault : Fault}
-    (read : IsReadFrom files paths path text (numbered_of libraries)) → lent ≡ text → lent_libraries ≡ libraries
-    → TellsIn lent (numbered_of lent_libraries) refusal explain fault
-    → TellsIn (joined read.libraries read.last) (numbered read.libraries) refusal explain fault
-tells_of {lent = lent} {refusal = refusal} {explain} {fault} read is are tells =
-    subst (λ (t : List ℕ). TellsIn t (numbered read.libraries) refusal explain fault) (is ∙ read.is)
-    (subst (λ (ls : List (List ℕ × ℕ)). TellsIn lent ls refusal explain fault) (ap numbered_of are ∙ read.lines) tells)
+-- a text that was read is refused, by the text and the libraries as they were lent
+pub refused_as_lent : {profile : Profile} {text lent : List ℕ} {libraries lent_libraries : List Library}
+    {refusal : Refusal} {explain : Bool} {fault : Fault} → lent ≡ text → lent_libraries ≡ libraries
+    → IsRefusalOf profile lent refusal → TellsIn lent (numbered_of lent_libraries) refusal explain fault
+    → IsRefusedText explain profile text (numbered_of libraries) fault
+refused_as_lent {profile} {lent = lent} {libraries} {refusal = refusal} {explain} {fault} is are refused tells = (
+  refusal,
+  subst (λ (t : List ℕ). IsRefusalOf profile t refusal) is refused,
+  subst (λ (t : List ℕ). TellsIn t (numbered_of libraries) refusal explain fault) is
+      (subst (λ (ls : List Library). TellsIn lent (numbered_of ls) refusal explain fault) are tells),
+)
+
+-- and as what libraries and a file hold
+pub refused_of_sources : {explain : Bool} {profile : Profile} {files : Contents} {paths : List (List ℕ)}
+    {path text : List ℕ} {by_lines : List (List ℕ × ℕ)} {fault : Fault}
+    (read : IsReadFrom files paths path text by_lines) → IsRefusedText explain profile text by_lines fault
+    → IsRefusedText explain profile (joined read.libraries read.last) (numbered read.libraries) fault
+refused_of_sources {explain} {profile} {by_lines = by_lines} {fault} read why =
+    subst (λ (ls : List (List ℕ × ℕ)). IsRefusedText explain profile (joined read.libraries read.last) ls fault)
+    read.lines
+    (subst (λ (t : List ℕ). IsRefusedText explain profile t by_lines fault) read.is why)
+
+pub refused_in_sources : {explain : Bool} {profile : Profile} {files : Contents} {paths : List (List ℕ)}
+    {path text : List ℕ} {by_lines : List (List ℕ × ℕ)} {fault : Fault}
+    → IsReadFrom files paths path text by_lines → IsRefusedText explain profile text by_lines fault
+    → IsRefusedIn explain profile files paths path fault
+refused_in_sources {explain} {profile} {fault = fault} read why =
+    let refused = refused_of_sources {explain = explain} {profile = profile} {fault = fault} read why in
+    refused_text refused.0 read.holds refused.1 refused.2
 
 -- a refusal of a joined text, explained or not
 pub told_plainly : {text : List ℕ} {by_lines : List (List ℕ × ℕ)} {refusal : Refusal} {explain : Bool} {fault : Fault}

@@ -84,10 +84,12 @@ pub use Rattle.image_reports.specs.certificates.Given.{fault_of_given}
 pub use Rattle.image_reports.specs.certificates.Texts.{fault_of_given_texts, numbers_given}
 pub use Rattle.image_reports.specs.image_pictures.Drawn.{DrawsOne, DrawsTwo}
 pub use Rattle.image_reports.specs.image_statistics.ImageText.{BeginsOtherwise, IsFaultOf, SaysFields}
-pub use Rattle.image_reports.specs.vectors.Lines.{NamedVector, vectors_in}
+pub use Rattle.image_reports.specs.source_places.Placed.{at_line, IsStanding, numbered_of, placed, standing_text}
+pub use Rattle.image_reports.specs.source_statistics.SourceText.{SaysCosts}
+pub use Rattle.image_reports.specs.vectors.Lines.{longest_vectors, NamedVector, vectors_in}
 pub use Rattle.image_reports.specs.vectors.Verdicts.{IsReport}
 pub use Rattle.image_reports.specs.declared.vectors.fault.VectorsFault.{VectorsFault}
-pub use Rattle.image_reports.specs.declared.vectors.fault.VectorsFault.TheVariants.{Line}
+pub use Rattle.image_reports.specs.declared.vectors.fault.VectorsFault.TheVariants.{Line, TooLong}
 pub use Rattle.elf.specs.Reading.{Executable}
 pub use Rattle.elf.specs.declared.fault.ElfFault.{ElfFault}
 pub use Rattle.elf.specs.declared.fault.ElfRule.{ElfRule}

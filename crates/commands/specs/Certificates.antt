@@ -11,6 +11,7 @@ use Rattle.commands.specs.Stops.{status_of}
 use Rattle.commands.specs.Words.{AreGiven}
 use Rattle.commands.specs.declared.fault.Fault.{Fault}
 use Rattle.commands.specs.declared.fault.Fault.TheVariants.{Run}
+use Rattle.image_reports.specs.certificate_explanations.Explained.{ExplainsCertificate}
 
 -- `same` and the stop where all runs end by ECALL; where they stop otherwise, that stop comes first
 abbrev pub same_text : Stop → List ℕ
@@ -23,6 +24,14 @@ PrintsCertificate image (Same stop entries) text = text ≡ same_text stop
 PrintsCertificate image (MayDiffer entry pc) text =
     (line : List ℕ) × IsLineAt (code_at code_base image) pc (Some line)
     × (text ≡ codes "may differ at " ++ decimal entry ++ codes "\n" ++ line)
+
+-- the same; where it is to be explained, and an entry may differ, these lines follow
+abbrev pub PrintsExplained : Bool → Fields → List (Option Arg) → Shifts → CertifiedEnd → List ℕ → Type 0
+PrintsExplained explain image given shifts (Same stop entries) text = PrintsCertificate image (Same stop entries) text
+PrintsExplained false image given shifts (MayDiffer entry pc) text = PrintsCertificate image (MayDiffer entry pc) text
+PrintsExplained true image given shifts (MayDiffer entry pc) text =
+    (first lines : List ℕ) × PrintsCertificate image (MayDiffer entry pc) first
+    × ExplainsCertificate image given shifts lines × (text ≡ first ++ lines)
 
 -- a word begins where the step is made that may differ
 abbrev pub StandsInCode : Fields → CertifiedEnd → Type 0
@@ -39,8 +48,9 @@ abbrev pub shifts_seen : Bool → Shifts
 shifts_seen false = Hidden
 shifts_seen true = Seen
 
--- whether this observer sees the same of the file's image for all arguments that have the values which the words give
-pub record SaysCertificate (shifts : Shifts) (files : Contents) (path : List ℕ) (words : List (List ℕ))
+-- whether this observer sees the same of the file's image for all arguments that have the values which the words give,
+-- and what is unknown where it may differ, where that is to be explained
+pub record SaysCertificate (explain : Bool) (shifts : Shifts) (files : Contents) (path : List ℕ) (words : List (List ℕ))
     (text : List ℕ) (status : ℕ) : Type 0 where
   pub image : Fields
   pub given : List (Option Arg)
@@ -48,7 +58,7 @@ pub record SaysCertificate (shifts : Shifts) (files : Contents) (path : List ℕ
   pub held : HoldsImage files path image
   pub as_said : AreGiven (params_of image) words given
   pub certified : Certified image given shifts (Ok certificate)
-  pub printed : PrintsCertificate image certificate text
+  pub printed : PrintsExplained explain image given shifts certificate text
   pub ended : status ≡ certificate_status certificate
 
 -- the certified run on what is given has this fault

@@ -1,6 +1,7 @@
 -- The line and the exit status of each fault.
 use Rattle.std.specs.Prelude.{ℕ, List, ◌++◌, Option, Some, None, codes}
 use Rattle.std.specs.Fmt.{decimal}
+use Rattle.std.specs.Option.{option_map}
 use Rattle.std.specs.String.{string_bytes}
 use Rattle.language.specs.arguments.Text as arguments
 use Rattle.commands.specs.declared.fault.Fault.{Fault}
@@ -11,11 +12,9 @@ use Rattle.commands.specs.declared.fault.FileFault.TheVariants.{CannotRead, Cann
 use Rattle.elf.specs.RuleNames as elf_rules
 use Rattle.elf.specs.Text as executables
 use Rattle.elf.specs.declared.fault.ElfFault.TheVariants as elf_faults
-use Rattle.functions.specs.function_text.FaultText as functions
-use Rattle.functions.specs.declared.function_text.fault.FunctionFault.TheVariants as function_faults
 use Rattle.harts.specs.RuleNames as rules
 use Rattle.commands.specs.Below.{ElfFault, ElfRule, EvalFault, HartsFault, ImageFault, PlanFault, RunFault}
-use Rattle.commands.specs.Below.{VectorsFault}
+use Rattle.commands.specs.Below.{standing_text, VectorsFault}
 use Rattle.harts.specs.declared.fault.HartsFault.TheVariants as harts
 use Rattle.input_files.specs.harts_file.Text.{plan_fault_text}
 use Rattle.input_files.specs.declared.harts_file.fault.PlanFault.TheVariants as plans
@@ -80,7 +79,8 @@ fault_line (Plan fault) = codes "refused: " ++ plan_fault_text fault
 fault_line (Harts fault) = codes "refused: " ++ harts_fault_text fault
 fault_line (Vectors fault) = codes "refused: " ++ vectors_fault_text fault
 fault_line (Code rule) = codes "refused: " ++ rule_text rule
-fault_line (Name place) = codes "refused: " ++ functions.fault_text (function_faults.Name place)
+fault_line (Name name) = codes "refused: F1 at "
+    ++ (standing_text (option_map (λ path. path.now) name.library) name.place ++ codes ": name")
 fault_line (Elf fault) = codes "refused: " ++ executables.fault_text fault
 fault_line (Unmet rule word) = codes "refused: " ++ unmet_text rule (string_bytes word)
 fault_line (File fault) = codes "file: " ++ file_fault_text fault
@@ -117,6 +117,7 @@ harts_status harts.Memory = 4
 
 abbrev pub vectors_status : VectorsFault → ℕ
 vectors_status (vectors.Line line) = 1
+vectors_status vectors.TooLong = 1
 vectors_status vectors.Memory = 4
 
 abbrev pub elf_status : ElfFault → ℕ
@@ -136,7 +137,7 @@ fault_status (Plan fault) = plan_status fault
 fault_status (Harts fault) = harts_status fault
 fault_status (Vectors fault) = vectors_status fault
 fault_status (Code rule) = 1
-fault_status (Name place) = 1
+fault_status (Name name) = 1
 fault_status (Elf fault) = elf_status fault
 fault_status (Unmet rule word) = 1
 fault_status (File fault) = 3

@@ -1,5 +1,5 @@
 -- What is said of the text of a file, for an observer: it is accepted, or it is not.
-use Rattle.std.specs.Prelude.{◌≡◌, ◌⊎◌, Bool, true, false, ℕ, List, Option, Some, None}
+use Rattle.std.specs.Prelude.{◌≡◌, Bool, true, false, ℕ, List, Option, Some, None}
 use Rattle.std.specs.String.{string_bytes}
 use Rattle.commands.specs.Contents.{Contents}
 use Rattle.commands.specs.FileTexts.{HoldsText, NoText}
@@ -9,8 +9,7 @@ use Rattle.commands.specs.declared.fault.Fault.TheVariants.{Text, Explained, Exp
 use Rattle.commands.specs.Unread.{IsOutOfMemory}
 use Rattle.explanations.specs.explained_refusals.Explained.{Explains}
 use Rattle.commands.specs.Below.{accepts, IsBuilt, IsRefusalOf, Judges, Optimisation, ProcedureTree, Profile}
-use Rattle.commands.specs.Below.{ProgramTree, Refusal}
-use Rattle.image_reports.specs.source_statistics.SourceText.{SaysCosts}
+use Rattle.commands.specs.Below.{ProgramTree, Refusal, SaysCosts}
 
 -- the bytes of libraries and of a file are together a text that is accepted
 pub record IsAccepted (profile : Profile) (files : Contents) (paths : List (List ℕ)) (path : List ℕ) : Type 0 where
@@ -22,25 +21,11 @@ pub record IsAccepted (profile : Profile) (files : Contents) (paths : List (List
   pub held : HoldsSources files paths path libraries text
   pub judged : Judges profile (joined libraries text) (accepts program before export)
 
--- the refusal, with lines that explain it
-abbrev pub IsExplained : List ℕ → Refusal → Fault → Type 0
-IsExplained source refusal (Explained told lines) = (told ≡ refusal) × Explains source refusal (string_bytes lines)
-IsExplained source refusal other = ⊥
-
--- how a refusal of a source is told: as it is; or where it is to be explained, with lines that explain it, or there
--- was no memory for these
-abbrev pub Tells : Bool → List ℕ → Refusal → Fault → Type 0
-Tells false source refusal fault = fault ≡ Text refusal
-Tells true source refusal fault = IsOutOfMemory fault ⊎ IsExplained source refusal fault
-
--- why it is not accepted: there is no text, or its first refusal, explained or not
-pub data IsRefusedSo (explain : Bool) (profile : Profile) (files : Contents) (path : List ℕ) : Fault → Type 0 where
-  no_text : {fault : Fault} → NoText files path fault → IsRefusedSo explain profile files path fault
-  not_accepted : {text : List ℕ} (refusal : Refusal) {fault : Fault}
-      → HoldsText files path text
-      → IsRefusalOf profile text refusal
-      → Tells explain text refusal fault
-      → IsRefusedSo explain profile files path fault
+-- why the text of one file is not accepted: there is none, or its first refusal
+pub data IsRefused (profile : Profile) (files : Contents) (path : List ℕ) : Fault → Type 0 where
+  no_text : {fault : Fault} → NoText files path fault → IsRefused profile files path fault
+  not_accepted : {text : List ℕ} (refusal : Refusal) → HoldsText files path text
+      → IsRefusalOf profile text refusal → IsRefused profile files path (Text refusal)
 
 -- a refusal of what stands in a library, or in the file, with these lines
 abbrev pub IsExplainedIn : Option (List ℕ) → Refusal → List ℕ → Fault → Type 0
@@ -59,6 +44,11 @@ pub data TellsIn (text : List ℕ) (by_lines : List (List ℕ × ℕ)) (refusal 
       → TellsIn text by_lines refusal true fault
   without_memory : {fault : Fault} → IsOutOfMemory fault → TellsIn text by_lines refusal true fault
 
+-- why a joined text is not accepted: its first refusal, explained or not
+abbrev pub IsRefusedText : Bool → Profile → List ℕ → List (List ℕ × ℕ) → Fault → Type 0
+IsRefusedText explain profile text by_lines fault = (refusal : Refusal) × IsRefusalOf profile text refusal
+    × TellsIn text by_lines refusal explain fault
+
 -- why the text of libraries and of a file is not accepted: there is none, or its first refusal, explained or not
 pub data IsRefusedIn (explain : Bool) (profile : Profile) (files : Contents) (paths : List (List ℕ))
     (path : List ℕ) : Fault → Type 0 where
@@ -69,10 +59,6 @@ pub data IsRefusedIn (explain : Bool) (profile : Profile) (files : Contents) (pa
       → TellsIn (joined libraries text) (numbered libraries) refusal explain fault
       → IsRefusedIn explain profile files paths path fault
 
--- why the source of one file is not accepted, not explained
-abbrev pub IsRefused : Profile → Contents → List ℕ → Fault → Type 0
-IsRefused = IsRefusedSo false
-
 -- the bytes are the image of the text of libraries and of a file, plain or optimised
 pub record IsImageOf (optimisation : Optimisation) (profile : Profile) (files : Contents) (paths : List (List ℕ))
     (path : List ℕ) (bytes : List ℕ) : Type 0 where
@@ -81,9 +67,10 @@ pub record IsImageOf (optimisation : Optimisation) (profile : Profile) (files : 
   pub held : HoldsSources files paths path libraries text
   pub built : IsBuilt optimisation profile (joined libraries text) bytes
 
--- the text is what the file's source costs, in plain or optimised code
-pub record SaysStatistics (optimisation : Optimisation) (profile : Profile) (files : Contents) (path text : List ℕ) :
-    Type 0 where
+-- the text is what the source of libraries and of a file costs, in plain or optimised code
+pub record SaysStatistics (optimisation : Optimisation) (profile : Profile) (files : Contents)
+    (paths : List (List ℕ)) (path text : List ℕ) : Type 0 where
+  pub libraries : List LibraryText
   pub source : List ℕ
-  pub held : HoldsText files path source
-  pub said : SaysCosts optimisation profile source text
+  pub held : HoldsSources files paths path libraries source
+  pub said : SaysCosts optimisation profile (joined libraries source) (numbered libraries) text

@@ -1,5 +1,6 @@
 -- Which page is the picture of the image of a file.
 use Rattle.std.specs.Prelude.{◌≡◌, ◌⊎◌, ℕ, ◌==◌, true, false, List, ◌++◌, length, Option, Ok, codes, if◌then◌else◌}
+use Rattle.std.specs.List.{flat_map}
 use Rattle.commands.specs.Below.{Arg, ArgumentFault, Certified, CertifiedEnd, DrawsOne, DrawsTwo, fault_of_given_texts}
 use Rattle.commands.specs.Below.{Fields, Hidden, Paired, Pairing, Param, params_of, RunFault}
 use Rattle.commands.specs.Certificates.{PrintsCertificate, FaultsByCertificate}
@@ -18,37 +19,41 @@ before_certificate = codes "One run, with 0 for each ?. For all values of each ?
 abbrev pub before_pairing : List ℕ
 before_pairing = codes "Two runs, one over the other. pair says:\n"
 
+-- what was asked for: the path, and behind it each word with a blank before it
+abbrev pub asked_text : List ℕ → List (List ℕ) → List ℕ
+asked_text path words = path ++ flat_map (λ word. codes " " ++ word) words
+
 -- words for one list: the run with 0 for each argument that is not given, and the certificate of all values
-pub record PicturesOne (image : Fields) (words : List (List ℕ)) (page : List ℕ) : Type 0 where
+pub record PicturesOne (image : Fields) (path : List ℕ) (words : List (List ℕ)) (page : List ℕ) : Type 0 where
   pub given : List (Option Arg)
   pub certificate : CertifiedEnd
   pub told : List ℕ
   pub as_said : AreGiven (params_of image) words given
   pub certified : Certified image given Hidden (Ok certificate)
   pub printed : PrintsCertificate image certificate told
-  pub drawn : DrawsOne image given (before_certificate ++ told) page
+  pub drawn : DrawsOne image given (asked_text path words) (before_certificate ++ told) page
 
 -- words for two lists: their two runs, and how they compare
-pub record PicturesTwo (image : Fields) (words : List (List ℕ)) (page : List ℕ) : Type 0 where
+pub record PicturesTwo (image : Fields) (path : List ℕ) (words : List (List ℕ)) (page : List ℕ) : Type 0 where
   pub one : List Arg
   pub other : List Arg
   pub pairing : Pairing
   pub spelled : AreBothSpelled (params_of image) words one other
   pub paired : Paired image one other (Ok pairing)
-  pub drawn : DrawsTwo image one other (before_pairing ++ pairing_text pairing) page
+  pub drawn : DrawsTwo image one other (asked_text path words) (before_pairing ++ pairing_text pairing) page
 
 -- as many words as parameters are one list, and others two
-pub data PicturesImage (image : Fields) (words : List (List ℕ)) (page : List ℕ) : Type 0 where
-  of_one : (length words == length (params_of image)) ≡ true → PicturesOne image words page
-      → PicturesImage image words page
-  of_two : (length words == length (params_of image)) ≡ false → PicturesTwo image words page
-      → PicturesImage image words page
+pub data PicturesImage (image : Fields) (path : List ℕ) (words : List (List ℕ)) (page : List ℕ) : Type 0 where
+  of_one : (length words == length (params_of image)) ≡ true → PicturesOne image path words page
+      → PicturesImage image path words page
+  of_two : (length words == length (params_of image)) ≡ false → PicturesTwo image path words page
+      → PicturesImage image path words page
 
 -- the page of the file's image on the arguments that the words spell
 pub record SaysPicture (files : Contents) (path : List ℕ) (words : List (List ℕ)) (page : List ℕ) : Type 0 where
   pub image : Fields
   pub held : HoldsImage files path image
-  pub pictured : PicturesImage image words page
+  pub pictured : PicturesImage image path words page
 
 -- the first fault of words for one list or two
 abbrev pub fault_of_lists : List Param → List (List ℕ) → Option ArgumentFault

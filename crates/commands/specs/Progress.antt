@@ -90,8 +90,9 @@ RequestTells Has (requests.Run image arguments options) files before after =
     FileRunTells Has options files image.now (map (λ word. word.now) arguments.now) before after
 RequestTells Has (requests.Pair image arguments options) files before after =
     FilePairTells Has options.progress files image.now (map (λ word. word.now) arguments.now) before after
-RequestTells Has (requests.Certify image arguments shifts progress) files before after =
-    FileCertificateTells Has progress shifts files image.now (map (λ word. word.now) arguments.now) before after
+RequestTells Has (requests.Certify image arguments options) files before after =
+    FileCertificateTells Has options.progress options.shifts files image.now (map (λ word. word.now) arguments.now)
+    before after
 RequestTells Has (requests.ElfCertify file words options) files before after =
     FileFunctionTells Has options.progress (run_options options) files file.now words before after
 RequestTells Has request files before after = after ≡ before

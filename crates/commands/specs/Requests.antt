@@ -36,26 +36,28 @@ Answers (requests.Check libraries file profile explain) files text status =
     IsAccepted profile files (map (λ path. path.now) libraries.now) file.now × (text ≡ codes "accepted\n")
     × (status ≡ 0)
 Answers (requests.Build libraries file image options) files text status = (text ≡ []) × (status ≡ 0)
-Answers (requests.Stat file profile optimisation) files text status =
-    SaysFileCosts optimisation profile files file.now text × (status ≡ 0)
-Answers (requests.Function file assembler header options) files text status = (text ≡ []) × (status ≡ 0)
-Answers (requests.Eval file arguments explain) files text status =
-    SaysMeaning files file.now (map (λ word. word.now) arguments.now) text × (status ≡ 0)
+Answers (requests.Stat libraries file profile optimisation) files text status =
+    SaysFileCosts optimisation profile files (map (λ path. path.now) libraries.now) file.now text × (status ≡ 0)
+Answers (requests.Function libraries file assembler header options) files text status = (text ≡ []) × (status ≡ 0)
+Answers (requests.Eval libraries file arguments explain) files text status =
+    SaysMeaning files (map (λ path. path.now) libraries.now) file.now (map (λ word. word.now) arguments.now) text
+    × (status ≡ 0)
 Answers (requests.Run image arguments options) files text status =
     SaysFileRun files image.now (map (λ word. word.now) arguments.now) text × (status ≡ 0)
 Answers (requests.Leak image arguments) files text status =
     SaysLeak files image.now (map (λ word. word.now) arguments.now) status text
 Answers (requests.Pair image arguments options) files text status =
     SaysPair options.explain files image.now (map (λ word. word.now) arguments.now) text × (status ≡ 0)
-Answers (requests.Certify image arguments shifts progress) files text status =
-    SaysCertificate (shifts_seen shifts) files image.now (map (λ word. word.now) arguments.now) text status
+Answers (requests.Certify image arguments options) files text status =
+    SaysCertificate options.explain (shifts_seen options.shifts) files image.now
+    (map (λ word. word.now) arguments.now) text status
 Answers (requests.Picture image arguments) files text status =
     SaysPicture files image.now (map (λ word. word.now) arguments.now) text × (status ≡ 0)
 Answers (requests.List image) files text status = SaysList files image.now text × (status ≡ 0)
 Answers (requests.Wrap file code image frame steps profile) files text status = (text ≡ []) × (status ≡ 0)
 Answers (requests.Harts file) files text status = SaysHarts files file.now text status
-Answers (requests.Vectors file vectors profile optimisation) files text status =
-    SaysVectors optimisation profile files file.now vectors.now text status
+Answers (requests.Vectors libraries file vectors profile optimisation) files text status =
+    SaysVectors optimisation profile files (map (λ path. path.now) libraries.now) file.now vectors.now text status
 Answers (requests.Explain explanation) files text status = (text ≡ explanation_text explanation ++ codes "\n")
     × (status ≡ 0)
 Answers (requests.ElfCertify file words options) files text status =
@@ -71,22 +73,22 @@ Leaves (requests.Check libraries file profile explain) before after = after ≡ 
 Leaves (requests.Build libraries file image options) before after =
     WritesFile image.now
     (IsImageOf options.optimisation options.profile before (map (λ path. path.now) libraries.now) file.now) before after
-Leaves (requests.Stat file profile optimisation) before after = after ≡ before
-Leaves (requests.Function file assembler header options) before after =
-    WritesTwo assembler.now header.now (AreFunctionTexts options.optimisation options.profile before file.now)
-    before after
-Leaves (requests.Eval file arguments explain) before after = after ≡ before
+Leaves (requests.Stat libraries file profile optimisation) before after = after ≡ before
+Leaves (requests.Function libraries file assembler header options) before after =
+    WritesTwo assembler.now header.now
+    (AreFunctionTexts options before (map (λ path. path.now) libraries.now) file.now) before after
+Leaves (requests.Eval libraries file arguments explain) before after = after ≡ before
 Leaves (requests.Run image arguments options) before after = after ≡ before
 Leaves (requests.Leak image arguments) before after = after ≡ before
 Leaves (requests.Pair image arguments options) before after = after ≡ before
-Leaves (requests.Certify image arguments shifts progress) before after = after ≡ before
+Leaves (requests.Certify image arguments options) before after = after ≡ before
 Leaves (requests.Picture image arguments) before after = after ≡ before
 Leaves (requests.List image) before after = after ≡ before
 Leaves (requests.Wrap file code image frame steps profile) before after =
     WritesFile image.now (IsImageOfCode (record { frame_bytes = frame; max_steps = steps; profile = profile }) before
     file.now code.now) before after
 Leaves (requests.Harts file) before after = after ≡ before
-Leaves (requests.Vectors file vectors profile optimisation) before after = after ≡ before
+Leaves (requests.Vectors libraries file vectors profile optimisation) before after = after ≡ before
 Leaves (requests.Explain explanation) before after = after ≡ before
 Leaves (requests.ElfCertify file words options) before after = after ≡ before
 Leaves (requests.ElfLeak file words options) before after = after ≡ before
@@ -101,21 +103,23 @@ Refuses (requests.Build libraries file image options) before after fault =
     (IsImageOf options.optimisation options.profile before (map (λ path. path.now) libraries.now) file.now)
     (IsRefusedIn options.explain options.profile before (map (λ path. path.now) libraries.now) file.now) before after
     fault
-Refuses (requests.Stat file profile optimisation) before after fault = RefusesCosts profile before file.now fault
-    × (after ≡ before)
-Refuses (requests.Function file assembler header options) before after fault =
-    FailsToWriteTwo assembler.now header.now (AreFunctionTexts options.optimisation options.profile before file.now)
-    (RefusesFunction options.explain options.profile before file.now) before after fault
-Refuses (requests.Eval file arguments explain) before after fault =
-    RefusesMeaning explain before file.now (map (λ word. word.now) arguments.now) fault × (after ≡ before)
+Refuses (requests.Stat libraries file profile optimisation) before after fault =
+    RefusesCosts profile before (map (λ path. path.now) libraries.now) file.now fault × (after ≡ before)
+Refuses (requests.Function libraries file assembler header options) before after fault =
+    FailsToWriteTwo assembler.now header.now
+    (AreFunctionTexts options before (map (λ path. path.now) libraries.now) file.now)
+    (RefusesFunction options before (map (λ path. path.now) libraries.now) file.now) before after fault
+Refuses (requests.Eval libraries file arguments explain) before after fault =
+    RefusesMeaning explain before (map (λ path. path.now) libraries.now) file.now (map (λ word. word.now) arguments.now)
+    fault × (after ≡ before)
 Refuses (requests.Run image arguments options) before after fault =
     RefusesRun before image.now (map (λ word. word.now) arguments.now) fault × (after ≡ before)
 Refuses (requests.Leak image arguments) before after fault =
     RefusesLeak before image.now (map (λ word. word.now) arguments.now) fault × (after ≡ before)
 Refuses (requests.Pair image arguments options) before after fault =
     RefusesPair before image.now (map (λ word. word.now) arguments.now) fault × (after ≡ before)
-Refuses (requests.Certify image arguments shifts progress) before after fault =
-    RefusesCertificate (shifts_seen shifts) before image.now (map (λ word. word.now) arguments.now) fault
+Refuses (requests.Certify image arguments options) before after fault =
+    RefusesCertificate (shifts_seen options.shifts) before image.now (map (λ word. word.now) arguments.now) fault
     × (after ≡ before)
 Refuses (requests.Picture image arguments) before after fault =
     RefusesPicture before image.now (map (λ word. word.now) arguments.now) fault × (after ≡ before)
@@ -125,8 +129,9 @@ Refuses (requests.Wrap file code image frame steps profile) before after fault =
     FailsToWrite image.now (IsImageOfCode asked before file.now code.now) (RefusesCode asked before file.now code.now)
     before after fault
 Refuses (requests.Harts file) before after fault = RefusesHarts before file.now fault × (after ≡ before)
-Refuses (requests.Vectors file vectors profile optimisation) before after fault =
-    RefusesVectors profile before file.now vectors.now fault × (after ≡ before)
+Refuses (requests.Vectors libraries file vectors profile optimisation) before after fault =
+    RefusesVectors profile before (map (λ path. path.now) libraries.now) file.now vectors.now fault
+    × (after ≡ before)
 Refuses (requests.Explain explanation) before after fault = IsOutOfMemory fault × (after ≡ before)
 Refuses (requests.ElfCertify file words options) before after fault = RefusesFunctionRun before file.now words fault
     × (after ≡ before)

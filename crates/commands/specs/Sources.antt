@@ -5,14 +5,13 @@ use Rattle.std.specs.Prelude.{length, map, take, Option, Some, None}
 use Rattle.std.specs.List.{All, count_by}
 use Rattle.std.specs.Option.{option_map, option_map_or}
 use Rattle.std.specs.Str.{IsUtf8}
-use Rattle.commands.specs.Below.{IsText, Place, Refusal, source_limit, TextTooLong}
+use Rattle.commands.specs.Below.{at_line, IsText, Place, placed, Refusal, source_limit, TextTooLong}
 use Rattle.commands.specs.Contents.{Contents}
 use Rattle.commands.specs.FileTexts.{IsNotUtf8}
 use Rattle.commands.specs.Unread.{IsOutOfMemory, NotRead}
 use Rattle.commands.specs.declared.fault.Fault.{Fault}
 use Rattle.commands.specs.declared.fault.Fault.TheVariants.{File, InLibrary, Text}
 use Rattle.commands.specs.declared.fault.FileFault.{FileFault}
-use Rattle.commands.specs.declared.sources.Library.{Library}
 use Rattle.language.specs.declared.why.Why.TheVariants.{Plain}
 use Rattle.word.specs.Places.{origin}
 
@@ -35,17 +34,6 @@ lines_in text = count_by is_line_feed text + 1
 -- libraries by their paths and how many lines each has
 abbrev pub numbered : List LibraryText → List (List ℕ × ℕ)
 numbered = map (λ library. (library.0, lines_in library.1))
-
--- the same of those that were read
-abbrev pub numbered_of : List Library → List (List ℕ × ℕ)
-numbered_of = map (λ library. (library.path.now, library.lines))
-
--- where a line of the joined text stands: in which library, or in none, which is in the file; and which line of that it
--- is, from 1
-abbrev pub placed : List (List ℕ × ℕ) → ℕ → Option (List ℕ) × ℕ
-placed [] line = (None, line)
-placed (library ∷ more) line =
-    if nat_le line library.1 then (Some library.0, line) else placed more (line - library.1)
 
 -- the line of a byte of a text, or of its end, from 1
 abbrev pub line_at : List ℕ → ℕ → ℕ
@@ -71,8 +59,7 @@ standing libraries refusal = option_map_or (λ (place : Place). placed libraries
 -- a refusal at a line, as another at its own
 abbrev pub IsAtLine : ℕ → Refusal → Refusal → Type 0
 IsAtLine line refusal told = (told.rule ≡ refusal.rule) × (told.why ≡ refusal.why)
-    × (told.place ≡ option_map (λ (place : Place). record { offset = place.offset; line = line; column = place.column })
-    refusal.place)
+    × (told.place ≡ option_map (at_line line) refusal.place)
 
 -- the bytes of files at paths are texts
 abbrev pub AreHeld : Contents → List LibraryText → Type 0

@@ -7,5 +7,8 @@ mod on_executables;
 mod options;
 mod words;
 
-pub use options::{CompileOptions, FunctionOptions, ObservedOptions, PairOptions, StepOptions};
+pub use options::{
+    CertifyOptions, CompileOptions, FunctionOptions, LinkOptions, ObservedOptions, PairOptions,
+    StepOptions,
+};
 pub use words::{Matched, NoRequest, Request, parse};

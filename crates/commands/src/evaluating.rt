@@ -9,7 +9,7 @@ use crate::command_line::Request;
 use crate::fault::Fault;
 use crate::files::Files;
 use crate::outcome;
-use crate::texts::{refused, text_of_file};
+use crate::sources::{joined_text, refused_in};
 use hepurita::{accepted_sources_are_evaluated, judge, read_args};
 use source_eval::eval;
 use std::alloc::Global;
@@ -22,24 +22,29 @@ pub fn budget_is_as_stated()
     ensures nodes { EVALUATION_BUDGET ≡ evaluation_budget }
 {}
 
-/// What an accepted text means on arguments, as lines. It is accepted for an observer of profile 1, and the budget
-/// suffices for each text that is. A refusal of the source is explained where that is asked for.
+/// What the accepted source of libraries and a file means on arguments, as lines. It is accepted for an observer of
+/// profile 1, and the budget suffices for each source that is. A refusal is explained where that is asked for.
 pub fn evaluate_text<'a, F: Files>(
     alloc: Global,
+    libraries: &'a [&'a str],
     file: &'a str,
     arguments: &'a [&'a str],
     explain: bool,
     files: &mut F,
 ) -> Result<Answer, Fault<'a>>
     ensures finds { IsTrue F.TELLS
-        → Finds (Request.Eval file.entry arguments.entry explain) (F.store files.old).contents result }
+        → Finds (Request.Eval libraries.entry file.entry arguments.entry explain) (F.store files.old).contents result }
     ensures read { IsRead result (F.store files.old) (F.store files.new) }
 {
     accepted_sources_are_evaluated();
-    let text = text_of_file(alloc, file, files)?;
-    let accepted = match judge(alloc, text.as_str()) {
+    let joined = joined_text(alloc, libraries, file, files)?;
+    let text = joined.text.as_str();
+    let accepted = match judge(alloc, text) {
         Ok(accepted) => accepted,
-        Err(refusal) => return Err(refused(alloc, text.as_str(), refusal, explain)),
+        Err(refusal) => {
+            let read = joined.libraries.as_slice();
+            return Err(refused_in(alloc, text, read, refusal, explain));
+        }
     };
     let params = accepted.params.as_slice();
     let args = read_args(alloc, params, arguments)?;

@@ -4,15 +4,15 @@ ghost use Rattle.commands.specs.declared.fault.Fault.TheVariants.{Text, Image, R
 ghost use Rattle.commands.specs.declared.fault.Fault.TheVariants.{File};
 
 use elf::{ElfFault, ElfRule};
-use functions::function_text::FunctionFault;
 use harts::HartsFault;
 use hepurita::RunFault;
 use image::ImageFault;
+use image_reports::source_places::Standing;
 use image_reports::vectors::VectorsFault;
 use input_files::harts_file::PlanFault;
 use input_files::wrapping::CodeRule;
 use language::arguments::ArgumentFault;
-use language::{Place, Refusal, Rule};
+use language::{Refusal, Rule};
 use source_eval::EvalFault;
 use std::alloc::{AllocError, AllocFailed};
 use std::fmt;
@@ -49,7 +49,7 @@ pub enum Fault<'a> {
     Vectors(VectorsFault),
     Code(CodeRule),
     /// The export has a name that C or an assembler cannot take; it stands there.
-    Name(Place),
+    Name(Standing<'a>),
     /// A file is no executable.
     Elf(ElfFault),
     /// What is asked of a run of a function breaks this rule, by this word.
@@ -93,7 +93,7 @@ impl Fault<'_> {
             Fault::Harts(HartsFault::Schedule { .. }) => 1,
             Fault::Harts(HartsFault::Argument { .. }) => 1,
             Fault::Harts(HartsFault::Memory) => 4,
-            Fault::Vectors(VectorsFault::Line { .. }) => 1,
+            Fault::Vectors(VectorsFault::Line { .. } | VectorsFault::TooLong) => 1,
             Fault::Vectors(VectorsFault::Memory) => 4,
             Fault::Code(_) => 1,
             Fault::Name(_) => 1,
@@ -170,10 +170,7 @@ impl fmt::Display for Fault<'_> {
             Fault::Harts(HartsFault::Memory) => write!(f, "refused: {}", Refusal::memory()),
             Fault::Vectors(fault) => write!(f, "refused: {fault}"),
             Fault::Code(rule) => write!(f, "refused: {rule}"),
-            Fault::Name(place) => {
-                let fault: FunctionFault<Refusal> = FunctionFault::Name(*place);
-                write!(f, "refused: {fault}")
-            }
+            Fault::Name(standing) => write!(f, "refused: F1 at {standing}: name"),
             Fault::Elf(fault) => write!(f, "refused: {fault}"),
             Fault::Unmet { rule, word } => {
                 let name = rule.name();

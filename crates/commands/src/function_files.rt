@@ -1,43 +1,74 @@
 // A function for C, as two files.
 
-ghost use Rattle.std.specs.Prelude.{◌≡◌, ◌⊎◌, IsTrue, IfOk, IfErr, OnOk, OnErr};
+ghost use Rattle.std.specs.Prelude.{◌≡◌, ◌⊎◌, map, IsTrue, IfOk, IfErr, OnOk, OnErr};
 ghost use Rattle.std.specs.String.{string_bytes};
 ghost use Rattle.commands.specs.Failures.{IsReadBy, failures_by};
-ghost use Rattle.commands.specs.FunctionFiles.{AreFunctionTexts, RefusesFunction};
+ghost use Rattle.commands.specs.FunctionFiles.{AreFunctionTexts, IsFaultIn, RefusesFunction};
 ghost use Rattle.commands.specs.TwoFiles.{AreWritten, AreCutOff, WritesTwo, FailsToWriteTwo};
 ghost use Rattle.commands.specs.Written.{IsWriteFault};
-ghost use Rattle.commands.specs.Below.{one_more};
+ghost use Rattle.commands.specs.Below.{numbered_of, one_more};
 
-use crate::command_line::CompileOptions;
+use crate::command_line::LinkOptions;
 use crate::fault::Fault;
 use crate::files::Files;
-use crate::texts::{refused, text_of_file, write_file};
+use crate::sources::{joined_text, refused_in};
+use crate::texts::write_file;
 use functions::function_text::{FunctionFault, Texts, texts_of};
+use image_reports::source_places::{Library, standing_place};
 use std::alloc::Global;
 
-/// The texts of the plain or the optimised function that the text of a file is compiled to, for an observer. A refusal
-/// of the source is explained where that is asked for.
+/// The fault of a text that was joined of libraries and a file, and of which there is no function: at its place in the
+/// library or the file where it stands. A refusal is explained where that is asked for.
+fn fault_in<'a>(
+    alloc: Global,
+    text: &str,
+    libraries: &[Library<'a>],
+    fault: FunctionFault,
+    explain: bool,
+) -> Fault<'a>
+    ensures { IsFaultIn explain text.now (numbered_of libraries.now) fault result }
+{
+    match fault {
+        FunctionFault::Text(refusal) => refused_in(alloc, text, libraries, refusal, explain),
+        FunctionFault::Name(place) => Fault::Name(standing_place(libraries, place)),
+    }
+}
+
+/// The texts of the plain or the optimised function that the source of libraries and a file is compiled to, for an
+/// observer. A refusal of the source is explained where that is asked for.
 fn function_texts<'a, F: Files>(
     alloc: Global,
+    libraries: &'a [&'a str],
     file: &'a str,
-    options: CompileOptions,
+    options: &LinkOptions<'_>,
     files: &mut F,
 ) -> Result<Texts, Fault<'a>>
     ensures said { IsTrue F.TELLS
-        → IfOk result (λ texts. AreFunctionTexts options.optimisation options.profile
-        (F.store files.old).contents file.now (string_bytes texts.assembler) (string_bytes texts.header)) }
+        → IfOk result (λ texts. AreFunctionTexts options.now (F.store files.old).contents
+        (map (λ path. path.now) libraries.now) file.now
+        (string_bytes texts.assembler) (string_bytes texts.header)) }
     ensures refused { IsTrue F.TELLS
-        → IfErr result (RefusesFunction options.explain options.profile (F.store files.old).contents file.now) }
+        → IfErr result (RefusesFunction options.now (F.store files.old).contents
+        (map (λ path. path.now) libraries.now) file.now) }
     ensures calm { OnOk result (F.store files.new ≡ F.store files.old) }
     ensures counted { IfErr result (λ fault. IsReadBy fault (F.store files.old) (F.store files.new)) }
 {
-    let text = text_of_file(alloc, file, files)?;
-    match texts_of(alloc, text.as_str(), options.profile, options.optimisation) {
+    let joined = joined_text(alloc, libraries, file, files)?;
+    let text = joined.text.as_str();
+    let compile = options.compile;
+    match texts_of(
+        alloc,
+        text,
+        compile.profile,
+        compile.optimisation,
+        options.prefix.text,
+        options.notation,
+    ) {
         Ok(texts) => Ok(texts),
-        Err(FunctionFault::Text(refusal)) => {
-            Err(refused(alloc, text.as_str(), refusal, options.explain))
+        Err(fault) => {
+            let read = joined.libraries.as_slice();
+            Err(fault_in(alloc, text, read, fault, compile.explain))
         }
-        Err(FunctionFault::Name(place)) => Err(Fault::Name(place)),
     }
 }
 
@@ -62,25 +93,29 @@ fn write_both<'a, F: Files>(
     write_file(other, texts.header.as_bytes(), files)
 }
 
-/// Compiles the text of a file, for an observer, to a plain or an optimised function that C calls: its text for an
-/// assembler is written to one file, and then its C header to another. Neither is written unless both texts are there.
-/// A refusal of the source is explained where that is asked for.
+/// Compiles the source of libraries and a file, for an observer, to a plain or an optimised function that C calls: its
+/// text for an assembler is written to one file, and then its C header to another. Neither is written unless both texts
+/// are there. A refusal of the source is explained where that is asked for.
 pub fn write_function<'a, F: Files>(
     alloc: Global,
+    libraries: &'a [&'a str],
     file: &'a str,
     assembler: &'a str,
     header: &'a str,
-    options: CompileOptions,
+    options: &LinkOptions<'_>,
     files: &mut F,
 ) -> Result<(), Fault<'a>>
     ensures said { IsTrue F.TELLS
         → OnOk result (WritesTwo assembler.now header.now
-        (AreFunctionTexts options.optimisation options.profile (F.store files.old).contents file.now)
+        (AreFunctionTexts options.now (F.store files.old).contents
+        (map (λ path. path.now) libraries.now) file.now)
         (F.store files.old).contents (F.store files.new).contents) }
     ensures refused { IsTrue F.TELLS
         → IfErr result (FailsToWriteTwo assembler.now header.now
-        (AreFunctionTexts options.optimisation options.profile (F.store files.old).contents file.now)
-        (RefusesFunction options.explain options.profile (F.store files.old).contents file.now)
+        (AreFunctionTexts options.now (F.store files.old).contents
+        (map (λ path. path.now) libraries.now) file.now)
+        (RefusesFunction options.now (F.store files.old).contents
+        (map (λ path. path.now) libraries.now) file.now)
         (F.store files.old).contents (F.store files.new).contents) }
     ensures untouched { IfErr result (λ fault. (IsWriteFault assembler.now fault ⊎ IsWriteFault header.now fault → ⊥)
         → (F.store files.new).contents ≡ (F.store files.old).contents) }
@@ -88,6 +123,6 @@ pub fn write_function<'a, F: Files>(
     ensures counted { IfErr result (λ fault. (F.store files.new).failures
         ≡ failures_by fault (F.store files.old).failures) }
 {
-    let texts = function_texts(alloc, file, options, files)?;
+    let texts = function_texts(alloc, libraries, file, options, files)?;
     write_both(assembler, header, &texts, files)
 }

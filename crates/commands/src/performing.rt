@@ -174,24 +174,33 @@ fn answer<'a, F: Files, O: Sink, E: Sink>(
             Ok(DONE)
         }
         Request::Stat {
+            libraries,
             file,
             profile,
             optimisation,
-        } => print(out, measure_file(alloc, file, profile, optimisation, files)),
+        } => print(
+            out,
+            measure_file(alloc, libraries, file, profile, optimisation, files),
+        ),
         Request::Function {
+            libraries,
             file,
             assembler,
             header,
             options,
         } => {
-            write_function(alloc, file, assembler, header, options, files)?;
+            write_function(alloc, libraries, file, assembler, header, &options, files)?;
             Ok(DONE)
         }
         Request::Eval {
+            libraries,
             file,
             arguments,
             explain,
-        } => print(out, evaluate_text(alloc, file, arguments, explain, files)),
+        } => print(
+            out,
+            evaluate_text(alloc, libraries, file, arguments, explain, files),
+        ),
         Request::Run {
             image,
             arguments,
@@ -209,11 +218,10 @@ fn answer<'a, F: Files, O: Sink, E: Sink>(
         Request::Certify {
             image,
             arguments,
-            shifts,
-            progress,
+            options,
         } => print(
             out,
-            certify_image(alloc, image, arguments, shifts, progress, files, err),
+            certify_image(alloc, image, arguments, options, files, err),
         ),
         Request::Picture { image, arguments } => {
             print(out, picture_image(alloc, image, arguments, files))
@@ -237,13 +245,22 @@ fn answer<'a, F: Files, O: Sink, E: Sink>(
         }
         Request::Harts { file } => print(out, run_file(alloc, file, text, files)),
         Request::Vectors {
+            libraries,
             file,
             vectors,
             profile,
             optimisation,
         } => print(
             out,
-            try_file(alloc, file, vectors, profile, optimisation, files),
+            try_file(
+                alloc,
+                libraries,
+                file,
+                vectors,
+                profile,
+                optimisation,
+                files,
+            ),
         ),
         Request::Explain { explanation } => print(out, lines_of(alloc, explanation)),
         Request::ElfCertify {

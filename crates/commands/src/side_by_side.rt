@@ -28,7 +28,7 @@ use rv_machine::{HartObservation, ListHartRecorder, Stop};
 use std::alloc::{AllocError, Global};
 
 /// The text of a file, to its end.
-pub fn whole_text<'a, F: Files>(
+fn whole_text<'a, F: Files>(
     alloc: Global,
     file: &'a str,
     files: &mut F,

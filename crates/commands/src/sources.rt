@@ -4,7 +4,8 @@ ghost use Rattle.std.specs.Prelude.{◌≡◌, ℕ, ◌<◌, List, Some, map, le
 ghost use Rattle.std.specs.Option.{option_map};
 ghost use Rattle.std.specs.String.{string_bytes};
 ghost use Rattle.commands.specs.Failures.{IsReadBy};
-ghost use Rattle.commands.specs.Sources.{IsAtLine, IsToldIn, NoSources, NoTextBelow, numbered_of, placed, standing};
+ghost use Rattle.commands.specs.Sources.{IsAtLine, IsToldIn, NoSources, NoTextBelow, standing};
+ghost use Rattle.commands.specs.Below.{numbered_of, placed};
 ghost use Rattle.commands.specs.Sources.{IsReadFrom, joined, LibraryText, line_at, lines_in, numbered, source_at};
 ghost use Rattle.commands.specs.Judged.{IsExplainedIn, TellsIn};
 
@@ -12,16 +13,10 @@ use crate::fault::{Fault, FileFault};
 use crate::files::Files;
 use crate::reading::bytes_of;
 use explanations::explained_refusals::explain_refusal;
+use image_reports::source_places::{Library, standing_place};
 use language::{Place, Refusal, Rule, Violation};
 use std::alloc::Global;
 use syntax::SOURCE_LIMIT;
-
-/// A library that was read: its path, and how many lines it has.
-#[derive(Clone, Copy)]
-pub struct Library<'a> {
-    pub path: &'a str,
-    pub lines: usize,
-}
 
 /// The text of libraries and of a file, and the libraries in their order.
 #[derive(Drop)]
@@ -42,20 +37,6 @@ fn lines_in(text: &str) -> usize
         }
     }
     lines
-}
-
-/// In which library a line of a joined text stands, if it is not in the file, and which line of that it is.
-fn placed<'a>(libraries: &[Library<'a>], line: u32) -> (Option<&'a str>, u32)
-    ensures { (option_map (λ path. path.now) result.0, result.1) ≡ placed (numbered_of libraries.now) line }
-{
-    let mut left = line;
-    for library in libraries {
-        if left as usize <= library.lines {
-            return (Some(library.path), left);
-        }
-        left -= library.lines as u32;
-    }
-    (None, left)
 }
 
 /// A byte of a joined text is the byte of the library or of the file where it stands, or the line feed behind the
@@ -80,17 +61,13 @@ fn standing<'a>(libraries: &[Library<'a>], refusal: Refusal) -> (Option<&'a str>
     let Some(place) = refusal.place else {
         return (None, refusal);
     };
-    let (library, line) = placed(libraries, place.line);
+    let standing = standing_place(libraries, place);
     let told = Refusal::of(Violation {
-        place: Place {
-            offset: place.offset,
-            line,
-            column: place.column,
-        },
+        place: standing.place,
         rule: refusal.rule,
         why: refusal.why,
     });
-    (library, told)
+    (standing.library, told)
 }
 
 /// The fault of a refusal of what stands in a library, or in the file where there is none.

@@ -6,7 +6,7 @@ ghost use Rattle.commands.specs.Answered.{Finds, IsRead};
 ghost use Rattle.commands.specs.Contents.{Contents, Store, failed, IsWritten, IsCutOff};
 ghost use Rattle.commands.specs.Failures.{IsReadBy, failures_by};
 ghost use Rattle.commands.specs.FileTexts.{HoldsText, NoText};
-ghost use Rattle.commands.specs.Judged.{Tells, IsRefusedIn, IsImageOf};
+ghost use Rattle.commands.specs.Judged.{IsRefusedIn, IsImageOf};
 ghost use Rattle.commands.specs.Written.{IsWriteFault, WritesFile, FailsToWrite};
 ghost use Rattle.input_files.specs.stream_build.Faults as texts;
 ghost use Rattle.commands.specs.Below.{one_more};
@@ -16,10 +16,9 @@ use crate::command_line::{CompileOptions, Request};
 use crate::fault::{Fault, FileFault};
 use crate::files::Files;
 use crate::sources::{joined_text, refused_in};
-use explanations::explained_refusals::explain_refusal;
 use hepurita::{build_with, judge_as};
 use input_files::stream_build::{BuildFault, read_text};
-use language::{Profile, Refusal};
+use language::Profile;
 use std::alloc::Global;
 use streams::put_all;
 
@@ -80,19 +79,6 @@ pub fn write_file<'a, F: Files>(path: &'a str, bytes: &[u8], files: &mut F) -> R
     match put {
         Ok(()) => Ok(()),
         Err(_) => Err(Fault::File(FileFault::CannotWrite(path))),
-    }
-}
-
-/// The fault of a refused source, with the lines that explain it where they are asked for.
-pub fn refused(alloc: Global, source: &str, refusal: Refusal, explain: bool) -> Fault<'static>
-    ensures { Tells explain source.now refusal result }
-{
-    if !explain {
-        return Fault::Text(refusal);
-    }
-    match explain_refusal(alloc, source, refusal) {
-        Ok(lines) => Fault::Explained(refusal, lines),
-        Err(fault) => Fault::Text(fault),
     }
 }
 

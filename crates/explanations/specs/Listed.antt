@@ -25,8 +25,8 @@ unfoldable pub files : List (List ℕ)
 files =
     codes "B1" ∷ codes "B2" ∷ codes "B3" ∷ codes "B4" ∷ codes "B5" ∷ codes "B6" ∷
     codes "A1" ∷ codes "A2" ∷ codes "A3" ∷ codes "H1" ∷ codes "H2" ∷ codes "H3" ∷ codes "H4" ∷ codes "V1" ∷
-    codes "C1" ∷ codes "C2" ∷ codes "C3" ∷ codes "G1" ∷ codes "G2" ∷ codes "G3" ∷ codes "G4" ∷ codes "G5" ∷
-    codes "F1" ∷ []
+    codes "V2" ∷ codes "C1" ∷ codes "C2" ∷ codes "C3" ∷ codes "G1" ∷ codes "G2" ∷ codes "G3" ∷ codes "G4" ∷
+    codes "G5" ∷ codes "F1" ∷ []
 
 -- errors of an evaluation, and the stops of a run by their names
 unfoldable pub runs : List (List ℕ)

@@ -5,7 +5,7 @@ use Rattle.std.specs.Option.{option_map}
 use Rattle.std.specs.Str.{bytes_eq}
 use Rattle.explanations.specs.declared.row.Explanation.{Explanation}
 use Rattle.explanations.specs.declared.rows.files.TheConstants.{B1, B2, B3, B4, B5, B6, A1, A2, A3, H1, H2, H3, H4}
-use Rattle.explanations.specs.declared.rows.files.TheConstants.{V1, C1, C2, C3, G1, G2, G3, G4, G5, F1}
+use Rattle.explanations.specs.declared.rows.files.TheConstants.{V1, V2, C1, C2, C3, G1, G2, G3, G4, G5, F1}
 use Rattle.explanations.specs.declared.rows.limits.TheConstants.{S1, S2, I1, I2, S3, M1}
 use Rattle.explanations.specs.declared.rows.names_and_types.TheConstants.{N1, N2, N3, N4, T1, T2, T3, T4, T5, T6, T7}
 use Rattle.explanations.specs.declared.rows.names_and_types.TheConstants.{T8, T9}
@@ -55,9 +55,9 @@ file_texts =
     (codes "B1", B1.now) ∷ (codes "B2", B2.now) ∷ (codes "B3", B3.now) ∷ (codes "B4", B4.now) ∷
     (codes "B5", B5.now) ∷ (codes "B6", B6.now) ∷ (codes "A1", A1.now) ∷ (codes "A2", A2.now) ∷
     (codes "A3", A3.now) ∷ (codes "H1", H1.now) ∷ (codes "H2", H2.now) ∷ (codes "H3", H3.now) ∷
-    (codes "H4", H4.now) ∷ (codes "V1", V1.now) ∷ (codes "C1", C1.now) ∷ (codes "C2", C2.now) ∷
-    (codes "C3", C3.now) ∷ (codes "G1", G1.now) ∷ (codes "G2", G2.now) ∷ (codes "G3", G3.now) ∷
-    (codes "G4", G4.now) ∷ (codes "G5", G5.now) ∷ (codes "F1", F1.now) ∷ []
+    (codes "H4", H4.now) ∷ (codes "V1", V1.now) ∷ (codes "V2", V2.now) ∷ (codes "C1", C1.now) ∷
+    (codes "C2", C2.now) ∷ (codes "C3", C3.now) ∷ (codes "G1", G1.now) ∷ (codes "G2", G2.now) ∷
+    (codes "G3", G3.now) ∷ (codes "G4", G4.now) ∷ (codes "G5", G5.now) ∷ (codes "F1", F1.now) ∷ []
 
 -- errors of an evaluation, and stops
 unfoldable pub run_texts : List Row

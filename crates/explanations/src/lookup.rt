@@ -9,7 +9,7 @@ use crate::row::Explanation;
 use crate::rows::{files, limits, names_and_types, reading, runs, secrecy};
 
 /// All codes, in the order of the tables.
-const CODES: [&str; 63] = [
+const CODES: [&str; 64] = [
     "X1",
     "X2",
     "X3",
@@ -55,6 +55,7 @@ const CODES: [&str; 63] = [
     "H3",
     "H4",
     "V1",
+    "V2",
     "C1",
     "C2",
     "C3",

@@ -7,11 +7,14 @@ ghost use Rattle.clap.specs.Matches.{first_value, found_of, matched_of, one_text
 ghost use Rattle.commands.specs.command_line.Words.{arguments_of, profile_named, WritesNoneItReads};
 
 use crate::command_line::on_executables::request_on_executable;
-use crate::command_line::options::{CompileOptions, PairOptions, StepOptions};
+use crate::command_line::options::{
+    CertifyOptions, CompileOptions, LinkOptions, PairOptions, StepOptions,
+};
 use crate::command_line::words::Request;
 use clap::ArgMatches;
 use clap::error::ErrorKind;
 use explanations::explanation;
+use functions::function_text::{Notation, Prefix};
 use hepurita::Optimisation;
 use word::Profile;
 
@@ -19,6 +22,12 @@ use word::Profile;
 pub(super) const NO_COMMAND: (ErrorKind, &str) = (
     ErrorKind::MissingSubcommand,
     "a command is required",
+);
+
+/// What is wrong where no name can begin with what is to stand before one.
+const NO_PREFIX: (ErrorKind, &str) = (
+    ErrorKind::InvalidValue,
+    "what --prefix takes has letters, digits and `_` alone, and no digit first",
 );
 
 /// What is wrong where a file that is read would be written.
@@ -56,6 +65,7 @@ fn request_with<'a>(
 {
     match name {
         "eval" => Some(Request::Eval {
+            libraries: texts_of(given, "with"),
             file: text_of(given, "FILE"),
             arguments,
             explain: given.get_flag("explain"),
@@ -83,8 +93,11 @@ fn request_with<'a>(
         "certify" => Some(Request::Certify {
             image: text_of(given, "IMAGE"),
             arguments,
-            shifts: given.get_flag("shifts"),
-            progress: given.get_flag("progress"),
+            options: CertifyOptions {
+                shifts: given.get_flag("shifts"),
+                explain: given.get_flag("explain"),
+                progress: given.get_flag("progress"),
+            },
         }),
         "picture" => Some(Request::Picture {
             image: text_of(given, "IMAGE"),
@@ -166,6 +179,7 @@ fn stat<'a>(given: &'a ArgMatches<'_>) -> Request<'a>
     ensures apart { WritesNoneItReads result }
 {
     Request::Stat {
+        libraries: texts_of(given, "with"),
         file: text_of(given, "FILE"),
         profile: profile_of(given),
         optimisation: optimisation_of(given),
@@ -185,11 +199,29 @@ fn function<'a>(given: &'a ArgMatches<'_>) -> Result<Request<'a>, (ErrorKind, &'
     if header == file {
         return Err(lost("HEADER is the same path as FILE, which would be lost"));
     }
+    let Some(prefix) = Prefix::new(text_of(given, "prefix")) else {
+        return Err(NO_PREFIX);
+    };
+    if assembler == header {
+        return Err(lost("HEADER is the same path as ASM, which would be lost"));
+    }
+    let libraries = texts_of(given, "with");
+    if !is_apart(assembler, libraries) {
+        return Err(lost("ASM is the same path as a LIB, which would be lost"));
+    }
+    if !is_apart(header, libraries) {
+        return Err(lost("HEADER is the same path as a LIB, which would be lost"));
+    }
     Ok(Request::Function {
+        libraries,
         file,
         assembler,
         header,
-        options: options_of(given),
+        options: LinkOptions {
+            compile: options_of(given),
+            prefix,
+            notation: notation_of(given),
+        },
     })
 }
 
@@ -221,6 +253,7 @@ fn vectors<'a>(given: &'a ArgMatches<'_>) -> Request<'a>
     ensures apart { WritesNoneItReads result }
 {
     Request::Vectors {
+        libraries: texts_of(given, "with"),
         file: text_of(given, "FILE"),
         vectors: text_of(given, "VECTORS"),
         profile: profile_of(given),
@@ -238,7 +271,7 @@ fn explain<'a>(given: &ArgMatches<'_>) -> Result<Request<'a>, (ErrorKind, &'stat
     }
 }
 
-/// The value of a required argument.
+/// The value of an argument, which is empty where it may be left out and is.
 pub(super) fn text_of<'a>(matches: &'a ArgMatches<'_>, id: &str) -> &'a str {
     match matches.get_str(id) {
         Some(text) => text,
@@ -287,6 +320,19 @@ fn optimisation_of(matches: &ArgMatches<'_>) -> Optimisation
         Optimisation::On
     } else {
         Optimisation::Off
+    }
+}
+
+/// As numbers, but where instructions are asked for.
+fn notation_of(matches: &ArgMatches<'_>) -> Notation
+    ensures numbers { one_text (found_of matches.now) (codes "mnemonics") ≡ None → result ≡ Notation.Numbers }
+    ensures mnemonics { one_text (found_of matches.now) (codes "mnemonics") ≡ Some (codes "true")
+        → result ≡ Notation.Mnemonics }
+{
+    if matches.get_flag("mnemonics") {
+        Notation::Mnemonics
+    } else {
+        Notation::Numbers
     }
 }
 

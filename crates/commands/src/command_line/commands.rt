@@ -10,6 +10,8 @@ pub(crate) enum CommandWord {
     Number(&'static str, &'static str),
     /// A number after its name, at most so large; and the text of the number that it is where it is not given.
     NumberUpTo(&'static str, u64, &'static str, &'static str),
+    /// A text after its name, which is empty where it is not given, and what it is called in the help.
+    Text(&'static str, &'static str, &'static str),
     /// A text after its name, which may be given several times, and what it is called in the help.
     Texts(&'static str, &'static str, &'static str),
     /// The observer's profile.
@@ -60,8 +62,7 @@ const PROGRESS_ANYWHERE: &str =
 const LIBRARIES: CommandWord = CommandWord::Texts(
     "with",
     "LIB",
-    "A source that is read before FILE, as if FILE began with its text and a line feed; may be given several times; \
-     --explain numbers the lines of the whole text",
+    "A source that is read before FILE, as if FILE began with its text and a line feed; may be given several times",
 );
 
 /// The most steps that a run of a function may be allowed.
@@ -111,6 +112,16 @@ pub(crate) static COMMANDS: [CommandRow; 15] = [
                 "HEADER",
                 "Where to write the C header, after ASM; it stays as it was if FILE is refused",
             ),
+            LIBRARIES,
+            CommandWord::Text(
+                "prefix",
+                "NAME",
+                "Puts NAME before the name of the function and of its macros: letters, digits and `_`, no digit first",
+            ),
+            CommandWord::Flag(
+                "mnemonics",
+                "Writes instructions in place of numbers, each behind a label; assemblers make the same bytes of them",
+            ),
             CommandWord::Profile,
             CommandWord::Optimisation,
             CommandWord::SmallCode,
@@ -123,6 +134,11 @@ pub(crate) static COMMANDS: [CommandRow; 15] = [
                 instructions a run executes at most; for a source its nodes and its work too",
         words: &[
             CommandWord::Path("FILE", "The source, or the image"),
+            CommandWord::Texts(
+                "with",
+                "LIB",
+                "A source that is read before FILE, as for `build`; FILE is a source then, whatever it begins with",
+            ),
             CommandWord::Profile,
             CommandWord::Optimisation,
             CommandWord::SmallCode,
@@ -133,6 +149,11 @@ pub(crate) static COMMANDS: [CommandRow; 15] = [
         about: "Evaluates an accepted source on arguments, without an image",
         words: &[
             CommandWord::Path("FILE", "The source"),
+            CommandWord::Texts(
+                "with",
+                "LIB",
+                "A source that is read before FILE, as for `build`; may be given several times; must come before FILE",
+            ),
             CommandWord::Flag("explain", EXPLAIN_FIRST),
             CommandWord::Arguments(ARGUMENTS),
         ],
@@ -189,6 +210,11 @@ pub(crate) static COMMANDS: [CommandRow; 15] = [
                 "shifts",
                 "Counts the amounts of shifts by a register as visible, for cores that shift bit by bit; must come \
                  before IMAGE",
+            ),
+            CommandWord::Flag(
+                "explain",
+                "If runs may differ, names the unknown registers that the instruction there reads, and the load that \
+                 each of them comes from; must come before IMAGE",
             ),
             CommandWord::Flag("progress", PROGRESS),
             CommandWord::Arguments(
@@ -257,6 +283,7 @@ pub(crate) static COMMANDS: [CommandRow; 15] = [
                 "Lines `NAME: ARG .. = OUTCOME ..`: the arguments as for `run`, and after `=` the result and then each \
                  `mut` array; bytes may be written `hex:00ff..`",
             ),
+            LIBRARIES,
             CommandWord::Profile,
             CommandWord::Optimisation,
             CommandWord::SmallCode,

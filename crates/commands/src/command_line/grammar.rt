@@ -50,6 +50,7 @@ fn argument<'a>(alloc: Global, word: &CommandWord) -> Arg<'a> {
         CommandWord::NumberUpTo(name, most, default, help) => {
             number_up_to(alloc, name, most, default).help(help)
         }
+        CommandWord::Text(name, value, help) => text(alloc, name, value, help),
         CommandWord::Texts(name, value, help) => texts(alloc, name, value, help),
         CommandWord::Profile => profile(alloc),
         CommandWord::Optimisation => optimisation(alloc),
@@ -91,6 +92,15 @@ fn number_up_to<'a>(
         .action(ArgAction::Set)
         .value_parser(ValueParser::unsigned(0, most))
         .default_value(default)
+}
+
+/// A text that may be given after its name.
+fn text<'a>(alloc: Global, name: &'static str, value: &'static str, help: &'static str) -> Arg<'a> {
+    Arg::new(alloc, name)
+        .long(name)
+        .value_name(value)
+        .action(ArgAction::Set)
+        .help(help)
 }
 
 /// A text that may be given after its name, several times.

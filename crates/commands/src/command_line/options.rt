@@ -2,6 +2,7 @@
 
 ghost use Rattle.std.specs.Prelude.{◌<◌, ◌^◌};
 
+use functions::function_text::{Notation, Prefix};
 use hepurita::Optimisation;
 use word::Profile;
 
@@ -14,6 +15,15 @@ pub struct CompileOptions {
     pub explain: bool,
 }
 
+/// How a source is compiled to a function for C, what stands before the name of its export in the function's, and how
+/// its words are written.
+#[derive(Clone, Copy, Debug)]
+pub struct LinkOptions<'a> {
+    pub compile: CompileOptions,
+    pub prefix: Prefix<'a>,
+    pub notation: Notation,
+}
+
 /// Whether a run says how far it is, and how many steps it has made once it has stopped.
 #[derive(Clone, Copy, Debug)]
 pub struct StepOptions {
@@ -24,6 +34,15 @@ pub struct StepOptions {
 /// Whether it is explained why two runs differ, and whether their comparison says how far it is.
 #[derive(Clone, Copy, Debug)]
 pub struct PairOptions {
+    pub explain: bool,
+    pub progress: bool,
+}
+
+/// Whether the observer of a certified run sees the amounts of shifts by registers, whether it is explained why runs
+/// may differ, and whether the run says how far it is.
+#[derive(Clone, Copy, Debug)]
+pub struct CertifyOptions {
+    pub shifts: bool,
     pub explain: bool,
     pub progress: bool,
 }

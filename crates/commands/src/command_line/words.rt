@@ -1,11 +1,12 @@
-ghost use Rattle.std.specs.Prelude.{◌≡◌, map, IfOk};
-ghost use Rattle.commands.specs.command_line.Words.{is_flag, behind_flags, after_path, IsAskedBy};
-ghost use Rattle.commands.specs.command_line.Words.{WritesNoneItReads};
+ghost use Rattle.std.specs.Prelude.{◌≡◌, ◌≤◌, length, map, IfOk};
+ghost use Rattle.commands.specs.command_line.Words.{is_flag, behind_flags, behind_value, after_path, IsAskedBy};
+ghost use Rattle.commands.specs.command_line.Words.{takes_value, WritesNoneItReads};
 
 use crate::command_line::asked::request_of;
 use crate::command_line::grammar::factc;
 use crate::command_line::options::{
-    CompileOptions, FunctionOptions, ObservedOptions, PairOptions, StepOptions,
+    CertifyOptions, CompileOptions, FunctionOptions, LinkOptions, ObservedOptions, PairOptions,
+    StepOptions,
 };
 use clap::error::ErrorKind;
 use clap::{ArgMatches, Error};
@@ -30,17 +31,20 @@ pub enum Request<'a> {
         options: CompileOptions,
     },
     Stat {
+        libraries: &'a [&'a str],
         file: &'a str,
         profile: Profile,
         optimisation: Optimisation,
     },
     Function {
+        libraries: &'a [&'a str],
         file: &'a str,
         assembler: &'a str,
         header: &'a str,
-        options: CompileOptions,
+        options: LinkOptions<'a>,
     },
     Eval {
+        libraries: &'a [&'a str],
         file: &'a str,
         arguments: &'a [&'a str],
         explain: bool,
@@ -62,8 +66,7 @@ pub enum Request<'a> {
     Certify {
         image: &'a str,
         arguments: &'a [&'a str],
-        shifts: bool,
-        progress: bool,
+        options: CertifyOptions,
     },
     Picture {
         image: &'a str,
@@ -84,6 +87,7 @@ pub enum Request<'a> {
         file: &'a str,
     },
     Vectors {
+        libraries: &'a [&'a str],
         file: &'a str,
         vectors: &'a str,
         profile: Profile,
@@ -185,23 +189,50 @@ fn after_path<'a>(words: &'a [&'a str]) -> &'a [&'a str]
     }
 }
 
-/// The words from the first on that is no flag.
+/// The words from the first on that is no flag and takes no value.
 fn behind_flags<'a>(words: &'a [&'a str]) -> &'a [&'a str]
     ensures { map (λ word. word.now) result.now ≡ behind_flags (map (λ word. word.now) words.now) }
 {
     let mut rest = words;
     while let [word, more @ ..] = rest {
-        if !is_flag(word) {
+        if is_flag(word) {
+            rest = more;
+        } else if takes_value(word) {
+            rest = behind_value(more);
+        } else {
             break;
         }
-        rest = more;
     }
     rest
 }
 
-/// Whether a word is a flag that may stand between a command that takes arguments and its path.
+/// The words behind one that is a value.
+fn behind_value<'a>(words: &'a [&'a str]) -> &'a [&'a str]
+    ensures value { behind_flags (map (λ word. word.now) result.now)
+        ≡ behind_value (map (λ word. word.now) words.now) }
+    ensures shorter { length result.now ≤ length words.now }
+{
+    match words {
+        [_, behind @ ..] => behind,
+        [] => &[],
+    }
+}
+
+/// Whether a word may stand alone between a command that takes arguments and its path: a flag, or an option with its
+/// value.
 fn is_flag(word: &str) -> bool
     ensures { result ≡ is_flag word.now }
 {
-    word == "--explain" || word == "--shifts" || word == "--progress" || word == "--steps"
+    word == "--explain"
+        || word == "--shifts"
+        || word == "--progress"
+        || word == "--steps"
+        || word.as_bytes().starts_with(b"--with=")
+}
+
+/// Whether a word stands there with a value behind it.
+fn takes_value(word: &str) -> bool
+    ensures { result ≡ takes_value word.now }
+{
+    word == "--with"
 }

@@ -70,6 +70,10 @@ pub const V1: &str =
     arguments end at the first `=` after it. A line that begins with `#` is a comment, and a line that is\n\
     empty or only spaces is skipped.";
 
+pub const V2: &str =
+    "A file of vectors has at most 4194304 bytes, and this one has more. Split it, and try the parts one\n\
+    after another.";
+
 pub const C1: &str =
     "The file of code is empty, its length is not a multiple of 4 bytes, or it has more than 192064\n\
     words. It must hold the bare code, as `objcopy -O binary` writes it, and not an object file.";
@@ -113,10 +117,11 @@ pub const G5: &str =
 
 pub const F1: &str =
     "The name of the export becomes the name of a function in C and in the assembly file, and it cannot\n\
-    be this one: it is `main`, a keyword or a type of C or C++, a register such as `x5` or `a0`, or a\n\
-    name that C reserves, such as one that begins with `__`. Give the export another name.";
+    be this one: it is `main`, a keyword or a type of C or C++, a name of C's library such as `memcmp`, a\n\
+    register such as `x5` or `a0`, or a name that C reserves, such as one that begins with `__`. Give the\n\
+    export another name, or let `factc function --prefix NAME` put NAME before it.";
 
-const ROWS: [Explanation; 23] = [
+const ROWS: [Explanation; 24] = [
     Explanation {
         code: "B1",
         name: "magic",
@@ -212,6 +217,13 @@ const ROWS: [Explanation; 23] = [
         code: "V1",
         name: "line form",
         rule: V1,
+        violates: "",
+        corrected: "",
+    },
+    Explanation {
+        code: "V2",
+        name: "text too long",
+        rule: V2,
         violates: "",
         corrected: "",
     },

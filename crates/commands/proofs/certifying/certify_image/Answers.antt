@@ -2,14 +2,13 @@ use Rattle.std.proofs.Common.{◌≡◌, ℕ, Bool, List, Option, Ok, Err, map, 
 use Rattle.commands.specs.Answered.{answered}
 use Rattle.commands.specs.Below.{Arg, Certified, Collected, Counting, fault_of_given_texts, Fields, HasLines, Param}
 use Rattle.commands.specs.Below.{params_of, Shifts}
-use Rattle.commands.specs.Certificates.{shifts_seen}
+use Rattle.commands.specs.Certificates.{PrintsExplained, shifts_seen}
 use Rattle.commands.specs.Contents.{Contents}
 use Rattle.commands.specs.Images.{HoldsImage}
 use Rattle.commands.specs.Progress.{CertificateGoesOn, Tells, FileCertificateTells}
 use Rattle.commands.specs.ImageRefusals.{no_image, no_arguments, no_answer, out_of_memory}
 use Rattle.commands.specs.Words.{IsFaultOfWords, AreGiven}
 use Rattle.commands.proofs.AnswerLemmas.{finds_fault, finds_converted, read_fault, read_memory}
-use Rattle.commands.proofs.CertificateLemmas.{stands_in_code}
 use Rattle.commands.proofs.ProgressLemmas.{on_err, file_certificate_tells, certificate_reaches}
 use Rattle.commands.proofs.WordLemmas.{fault_of_words, given_from}
 use Rattle.commands.proofs.certifying.certify_image.Goals as goal
@@ -41,17 +40,16 @@ returns-in_err-certificate-clause-finds g c = λ tells.
         why,
         given_from _ _ (c.as_slice.ensures.value ∙ c.in_ok-image.ensures.params) c.in_ok-given.ensures.faultless
             c.in_ok-given.ensures.found,
-        subst (λ (s : Shifts). Certified image c.in_ok-given.given.items s (Err why)) c.shifts_seen.ensures
-            (subst (λ (xs : List (Option Arg)). Certified image xs c.shifts_seen.result (Err why))
-            c.as_slice-2.ensures.value c.in_err-certificate.ensures.certified),
+        subst (λ (s : Shifts). Certified image c.in_ok-given.given.items s (Err why)) c.shifts_seen-shifts.ensures
+            (subst (λ (xs : List (Option Arg)). Certified image xs c.shifts_seen-shifts.result (Err why))
+            c.as_slice-given.ensures.value c.in_err-certificate.ensures.certified),
         is,
       ),
       refl,
     ))
 
-pub text_of-requires : goal.text_of-requires
-text_of-requires g c = stands_in_code c.in_ok-image.image c.as_slice-2.result.now c.shifts_seen.result
-    c.in_ok-certificate.certificate c.in_ok-certificate.ensures.certified
+pub certificate_lines-requires : goal.certificate_lines-requires
+certificate_lines-requires g c = c.in_ok-certificate.ensures.certified
 
 pub returns-in_err-text-clause-finds : goal.returns-in_err-text-clause-finds
 returns-in_err-text-clause-finds g c = λ tells.
@@ -69,10 +67,13 @@ returns-clause-finds g c = λ tells.
       as_said = given_from _ _ (c.as_slice.ensures.value
           ∙ c.in_ok-image.ensures.params) c.in_ok-given.ensures.faultless c.in_ok-given.ensures.found;
       certified = subst (λ (s : Shifts). Certified image c.in_ok-given.given.items s (Ok certificate))
-          c.shifts_seen.ensures
-          (subst (λ (xs : List (Option Arg)). Certified image xs c.shifts_seen.result (Ok certificate))
-          c.as_slice-2.ensures.value c.in_ok-certificate.ensures.certified);
-      printed = c.in_ok-text.ensures;
+          c.shifts_seen-shifts.ensures
+          (subst (λ (xs : List (Option Arg)). Certified image xs c.shifts_seen-shifts.result (Ok certificate))
+          c.as_slice-given.ensures.value c.in_ok-certificate.ensures.certified);
+      printed = subst (λ (s : Shifts). PrintsExplained c.args.options.explain image c.in_ok-given.given.items s certificate
+          c.in_ok-text.text.items) c.shifts_seen-shifts.ensures
+          (subst (λ (xs : List (Option Arg)). PrintsExplained c.args.options.explain image xs c.shifts_seen-shifts.result
+          certificate c.in_ok-text.text.items) c.as_slice-given.ensures.value c.in_ok-text.ensures);
       ended = c.status_of_certificate-status.ensures.exact;
     }) refl
 
@@ -92,18 +93,18 @@ went_out Has before after {image = image} {given = given} {given' = given'} {shi
 
 pub returns-in_err-text-clause-part : goal.returns-in_err-text-clause-part
 returns-in_err-text-clause-part g c = λ tells both.
-    on_err _ (inr (certificate_reaches _ _ _ _ _ c.args.progress c.args.shifts
-    (went_out HasLines _ _ c.args.progress c.args.shifts (c.in_ok-image.ensures.said tells)
+    on_err _ (inr (certificate_reaches _ _ _ _ _ c.args.options.progress c.args.options.shifts
+    (went_out HasLines _ _ c.args.options.progress c.args.options.shifts (c.in_ok-image.ensures.said tells)
     (given_from _ _ (c.as_slice.ensures.value ∙ c.in_ok-image.ensures.params) c.in_ok-given.ensures.faultless
-    c.in_ok-given.ensures.found) c.as_slice-2.ensures.value
-    c.shifts_seen.ensures (c.in_ok-certificate.ensures.told both))))
+    c.in_ok-given.ensures.found) c.as_slice-given.ensures.value
+    c.shifts_seen-shifts.ensures (c.in_ok-certificate.ensures.told both))))
 
 pub returns-clause-told : goal.returns-clause-told
 returns-clause-told g c = λ tells both.
-    went_out HasLines _ _ c.args.progress c.args.shifts (c.in_ok-image.ensures.said tells)
+    went_out HasLines _ _ c.args.options.progress c.args.options.shifts (c.in_ok-image.ensures.said tells)
     (given_from _ _ (c.as_slice.ensures.value ∙ c.in_ok-image.ensures.params) c.in_ok-given.ensures.faultless
-    c.in_ok-given.ensures.found) c.as_slice-2.ensures.value
-    c.shifts_seen.ensures (c.in_ok-certificate.ensures.told both)
+    c.in_ok-given.ensures.found) c.as_slice-given.ensures.value
+    c.shifts_seen-shifts.ensures (c.in_ok-certificate.ensures.told both)
 
 pub returns-in_err-image-clause-read : goal.returns-in_err-image-clause-read
 returns-in_err-image-clause-read g c = read_fault _ _ _ _ c.from_residual.ensures.1 c.in_err-image.ensures.read

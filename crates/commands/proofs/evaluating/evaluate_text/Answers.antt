@@ -1,39 +1,37 @@
 use Rattle.std.proofs.Common.{List, map, Err, refl, ap, ◌∙◌, subst, arith}
-use Rattle.std.specs.String.{string_bytes}
 use Rattle.commands.specs.Answered.{not_answered}
 use Rattle.commands.specs.Below.{answer, fault_of_texts, Means, P1, Param, program_tree, Results}
-use Rattle.commands.specs.Meanings.{evaluation_budget, no_text, not_accepted, no_arguments, out_of_memory}
+use Rattle.commands.specs.Judged.{no_sources}
+use Rattle.commands.specs.Meanings.{evaluation_budget, not_accepted, no_arguments, out_of_memory}
 use Rattle.commands.specs.OutcomeText.{outcome_text}
 use Rattle.commands.specs.Words.{IsFaultOfWords}
 use Rattle.commands.specs.declared.fault.Fault.TheVariants.{Eval}
 use Rattle.commands.proofs.AnswerLemmas.{finds_answer, finds_fault, finds_converted, read_fault, read_memory}
-use Rattle.commands.proofs.Counting.{told_calm}
+use Rattle.commands.proofs.Counting.{tells_in_calm}
 use Rattle.commands.proofs.MeaningLemmas.{program_held, only_memory, same_outcome, answered}
+use Rattle.commands.proofs.SourceLemmas.{refused_as_lent, refused_in_sources}
 use Rattle.commands.proofs.WordLemmas.{fault_of_words, spelled_from}
 use Rattle.commands.proofs.evaluating.evaluate_text.Goals as goal
 
-pub returns-in_err-text-clause-finds : goal.returns-in_err-text-clause-finds
-returns-in_err-text-clause-finds g c = λ tells.
-    finds_fault _ _ c.from_residual.ensures.1 (no_text (c.in_err-text.ensures.refused tells), refl)
+pub returns-in_err-joined-clause-finds : goal.returns-in_err-joined-clause-finds
+returns-in_err-joined-clause-finds g c = λ tells.
+    finds_fault _ _ c.from_residual.ensures.1 (not_accepted (no_sources (c.in_err-joined.ensures.refused tells)), refl)
 
 pub returns-in-Err-clause-finds : goal.returns-in-Err-clause-finds
 returns-in-Err-clause-finds g c = λ tells.
-    let held = c.in_ok-text.ensures.said tells in
     not_answered (
-      not_accepted c.in-Err.refusal held.held held.is_text
-          (rw c.as_str.ensures.value at c.in-Err.ensures.refused) (rw c.as_str-in-Err.ensures.value at c.refused.ensures),
+      not_accepted (refused_in_sources (c.in_ok-joined.ensures.said tells)
+          (refused_as_lent c.as_str-text.ensures.value c.as_slice-read.ensures.value c.in-Err.ensures.refused
+          c.refused_in.ensures)),
       refl,
     )
 
 pub returns-in_err-args-clause-finds : goal.returns-in_err-args-clause-finds
 returns-in_err-args-clause-finds g c = λ tells.
-    let files = (g.F.Files.store c.args.files.now).contents in
     let words = map (λ word. word.now) c.args.arguments.now in
     let why = c.in_err-args.field-0.0 in
     let ok = c.in-Ok.ensures.accepted in
-    let held = program_held files c.args.file.now (string_bytes c.in_ok-text.text) c.as_str.result.now
-    (program_tree c.in-Ok.accepted.program) ok.0 ok.1 (c.in_ok-text.ensures.said tells)
-    c.as_str.ensures.value ok.2 in
+    let held = program_held (c.in_ok-joined.ensures.said tells) c.as_str-text.ensures.value ok.2 in
     finds_fault _ _ c.from_residual-in_err-args.ensures.1 (
       no_arguments held
           (subst (λ (params : List Param). IsFaultOfWords (fault_of_texts params words) why)
@@ -48,7 +46,7 @@ returns-in_err-outcome-clause-finds g c = λ tells.
     let program = program_tree c.in-Ok.accepted.program in
     let spelled = spelled_from c.args.arguments.now (λ word. word.now) (c.as_slice-params.ensures.value
     ∙ ok.3) c.in_ok-args.ensures.within c.in_ok-args.ensures.found in
-    let meant = c.accepted_sources_are_evaluated.ensures P1 c.as_str.result.now program ok.0 ok.1 c.in_ok-args.args
+    let meant = c.accepted_sources_are_evaluated.ensures P1 c.as_str-text.result.now program ok.0 ok.1 c.in_ok-args.args
     evaluation_budget ok.2 spelled.within (omega arith) in
     finds_fault _ _ c.from_residual-in_err-outcome.ensures.1 (
       out_of_memory {fault = Eval c.in_err-outcome.field-0.0}
@@ -70,7 +68,7 @@ returns-clause-finds g c = λ tells.
     let same = c.as_slice-params.ensures.value ∙ ok.3 in
     let spelled = spelled_from c.args.arguments.now (λ word. word.now) same c.in_ok-args.ensures.within
     c.in_ok-args.ensures.found in
-    let meant = c.accepted_sources_are_evaluated.ensures P1 c.as_str.result.now program ok.0 ok.1 args evaluation_budget
+    let meant = c.accepted_sources_are_evaluated.ensures P1 c.as_str-text.result.now program ok.0 ok.1 args evaluation_budget
     ok.2 spelled.within (omega arith) in
     let is = same_outcome outcome meant.0 (answer program args evaluation_budget) meant.2
     c.in_ok-outcome.ensures.answer in
@@ -81,8 +79,7 @@ returns-clause-finds g c = λ tells.
         export = ok.1;
         args = args;
         outcome = outcome;
-        held = program_held (g.F.Files.store c.args.files.now).contents c.args.file.now (string_bytes c.in_ok-text.text)
-            c.as_str.result.now program ok.0 ok.1 (c.in_ok-text.ensures.said tells) c.as_str.ensures.value ok.2;
+        held = program_held (c.in_ok-joined.ensures.said tells) c.as_str-text.ensures.value ok.2;
         spelled = spelled;
         means = subst (λ (results : Results). Means program args results) is meant.1;
         within = answered outcome meant.0 (answer program args evaluation_budget) meant.2 is;
@@ -91,22 +88,22 @@ returns-clause-finds g c = λ tells.
       refl,
     ) refl
 
-pub returns-in_err-text-clause-read : goal.returns-in_err-text-clause-read
-returns-in_err-text-clause-read g c = read_fault _ _ _ _ c.from_residual.ensures.1 c.in_err-text.ensures.counted
+pub returns-in_err-joined-clause-read : goal.returns-in_err-joined-clause-read
+returns-in_err-joined-clause-read g c = read_fault _ _ _ _ c.from_residual.ensures.1 c.in_err-joined.ensures.counted
 
 pub returns-in_err-args-clause-read : goal.returns-in_err-args-clause-read
-returns-in_err-args-clause-read g c = read_fault _ _ _ _ c.from_residual-in_err-args.ensures.1 c.in_ok-text.ensures.calm
+returns-in_err-args-clause-read g c = read_fault _ _ _ _ c.from_residual-in_err-args.ensures.1 c.in_ok-joined.ensures.calm
 
 pub returns-in_err-outcome-clause-read : goal.returns-in_err-outcome-clause-read
 returns-in_err-outcome-clause-read g c =
-    read_fault _ _ _ _ c.from_residual-in_err-outcome.ensures.1 c.in_ok-text.ensures.calm
+    read_fault _ _ _ _ c.from_residual-in_err-outcome.ensures.1 c.in_ok-joined.ensures.calm
 
 pub returns-in_err-lines-clause-read : goal.returns-in_err-lines-clause-read
-returns-in_err-lines-clause-read g c = read_memory _ c.from_residual-in_err-lines.ensures.1 c.in_ok-text.ensures.calm
+returns-in_err-lines-clause-read g c = read_memory _ c.from_residual-in_err-lines.ensures.1 c.in_ok-joined.ensures.calm
 
 pub returns-in-Err-clause-read : goal.returns-in-Err-clause-read
 returns-in-Err-clause-read g c =
-    told_calm c.args.explain _ _ c.refused.result c.refused.ensures c.in_ok-text.ensures.calm
+    tells_in_calm _ _ _ _ c.refused_in.result c.refused_in.ensures c.in_ok-joined.ensures.calm
 
 pub returns-clause-read : goal.returns-clause-read
-returns-clause-read g c = c.in_ok-text.ensures.calm
+returns-clause-read g c = c.in_ok-joined.ensures.calm

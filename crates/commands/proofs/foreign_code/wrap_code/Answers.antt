@@ -119,7 +119,7 @@ returns-in-Err-Text-clause-refused g c = λ tells.
     subst (λ (t : List ℕ). IsRefusalOf c.args.asked.profile t refusal) c.as_str.ensures.value
     (subst (IsFaultOf c.as_str.result.now c.as_slice.result.now c.args.asked) c.in-Err-Text.field-0-is
     c.in-Err-Text.ensures.fault) in
-    refused (not_accepted (judged.not_accepted refusal (c.in_ok-text.ensures.said tells) why refl))
+    refused (not_accepted (judged.not_accepted refusal (c.in_ok-text.ensures.said tells) why))
     (ap (λ (s : Store). s.contents) (c.in_ok-words.ensures.calm ∙ c.in_ok-text.ensures.calm))
 
 pub returns-clause-refused : goal.returns-clause-refused

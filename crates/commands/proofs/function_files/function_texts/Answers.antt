@@ -1,38 +1,42 @@
+use Rattle.std.proofs.Common.{List, ℕ, ◌∙◌, subst}
 use Rattle.std.specs.String.{string_bytes}
-use Rattle.commands.specs.FunctionFiles.{not_accepted, taken_name}
-use Rattle.commands.specs.Judged as judged
+use Rattle.commands.specs.Below.{numbered_of}
+use Rattle.commands.specs.FunctionFiles.{not_accepted}
+use Rattle.commands.specs.Judged.{no_sources}
+use Rattle.functions.specs.function_text.Texts.{AreTextsOf}
 use Rattle.language.proofs.Handed.{handed_on}
-use Rattle.commands.proofs.Counting.{told_calm}
+use Rattle.commands.proofs.FunctionFaults.{fault_calm, fault_of_sources}
 use Rattle.commands.proofs.function_files.function_texts.Goals as goal
 
-pub returns-in_err-text-clause-refused : goal.returns-in_err-text-clause-refused
-returns-in_err-text-clause-refused g c = λ tells.
-    handed_on _ _ c.from_residual.ensures.1 (not_accepted (judged.no_text (c.in_err-text.ensures.refused tells)))
+pub returns-in_err-joined-clause-refused : goal.returns-in_err-joined-clause-refused
+returns-in_err-joined-clause-refused g c = λ tells.
+    handed_on _ _ c.from_residual.ensures.1 (not_accepted (no_sources (c.in_err-joined.ensures.refused tells)))
 
 pub returns-in-Ok-clause-said : goal.returns-in-Ok-clause-said
 returns-in-Ok-clause-said g c = λ tells.
+    let read = c.in_ok-joined.ensures.said tells in
     let texts = c.in-Ok.texts in
+    let options = c.args.options.now in
     record {
-      text = string_bytes c.in_ok-text.text;
-      held = c.in_ok-text.ensures.said tells;
-      made = rw c.as_str.ensures.value at c.in-Ok.ensures.made;
+      libraries = read.libraries;
+      text = read.last;
+      held = read.holds;
+      made =
+          subst (λ (source : List ℕ). AreTextsOf options.compile.optimisation options.compile.profile
+          options.prefix.text.now options.notation source (string_bytes texts.assembler) (string_bytes texts.header))
+          (c.as_str-text.ensures.value ∙ read.is) c.in-Ok.ensures.made;
     }
-
-pub returns-in-Err-Text-clause-refused : goal.returns-in-Err-Text-clause-refused
-returns-in-Err-Text-clause-refused g c = λ tells.
-    not_accepted (judged.not_accepted c.in-Err-Text.refusal (c.in_ok-text.ensures.said tells)
-    (rw c.as_str.ensures.value at (rw c.in-Err-Text.field-0-is at c.in-Err-Text.ensures.fault))
-    (rw c.as_str-in-Err-Text.ensures.value at c.refused.ensures))
 
 pub returns-clause-refused : goal.returns-clause-refused
 returns-clause-refused g c = λ tells.
-    taken_name (c.in_ok-text.ensures.said tells)
-    (rw c.as_str.ensures.value at (rw c.in-Err-Name.field-0-is at c.in-Err-Name.ensures.fault))
+    fault_of_sources c.in-Err.fault (c.in_ok-joined.ensures.said tells) c.as_str-text.ensures.value
+    c.as_slice-read.ensures.value c.in-Err.ensures.fault c.fault_in.ensures
 
-pub returns-in_err-text-clause-counted : goal.returns-in_err-text-clause-counted
-returns-in_err-text-clause-counted g c =
-    handed_on _ _ c.from_residual.ensures.1 c.in_err-text.ensures.counted
+pub returns-in_err-joined-clause-counted : goal.returns-in_err-joined-clause-counted
+returns-in_err-joined-clause-counted g c =
+    handed_on _ _ c.from_residual.ensures.1 c.in_err-joined.ensures.counted
 
-pub returns-in-Err-Text-clause-counted : goal.returns-in-Err-Text-clause-counted
-returns-in-Err-Text-clause-counted g c =
-    told_calm c.args.options.explain _ _ c.refused.result c.refused.ensures c.in_ok-text.ensures.calm
+pub returns-clause-counted : goal.returns-clause-counted
+returns-clause-counted g c =
+    fault_calm c.args.options.now.compile.explain c.as_str-text.result.now (numbered_of c.as_slice-read.result.now)
+    c.in-Err.fault c.fault_in.result c.fault_in.ensures c.in_ok-joined.ensures.calm

@@ -1,52 +1,34 @@
-use Rattle.std.proofs.Common.{List, ℕ, Ok, refl, ap, subst}
-use Rattle.std.specs.Option.{IfSome}
-use Rattle.std.specs.String.{string_bytes}
-use Rattle.commands.specs.Below.{BeginsOtherwise, IsFaultOf, SaysFields}
-use Rattle.commands.specs.Costs.{not_read}
-use Rattle.commands.proofs.AnswerLemmas.{finds_answer, finds_fault, read_fault}
-use Rattle.commands.proofs.MeasuringLemmas.{image_costs, image_faulty}
+use Rattle.std.proofs.Common.{◌<◌, length, arith, refl, sym, subst}
+use Rattle.std.proofs.lemmas.Bool.Decides.{nat_tests}
+use Rattle.commands.specs.Answered.{IsRead}
+use Rattle.commands.specs.Contents.{Store}
+use Rattle.commands.specs.Costs.{no_source}
+use Rattle.commands.specs.Judged.{no_sources}
+use Rattle.commands.proofs.AnswerLemmas.{finds_fault, read_fault}
+use Rattle.commands.proofs.MeasuringLemmas.{some_paths, source_measured}
 use Rattle.commands.proofs.measuring.measure_file.Goals as goal
 
-pub returns-in_err-bytes-clause-finds : goal.returns-in_err-bytes-clause-finds
-returns-in_err-bytes-clause-finds g c = λ tells.
-    finds_fault _ _ c.from_residual.ensures.1 (not_read c.in_err-bytes.ensures.fault, refl)
-
-pub returns-in_err-bytes-clause-read : goal.returns-in_err-bytes-clause-read
-returns-in_err-bytes-clause-read g c = read_fault _ _ _ _ c.from_residual.ensures.1 c.in_err-bytes.ensures.counted
-
-pub returns-in_err-lines-clause-read : goal.returns-in_err-lines-clause-read
-returns-in_err-lines-clause-read g c =
-    read_fault _ _ _ _ c.from_residual-in_err-lines.ensures.1 c.in_ok-bytes.ensures.calm
-
-pub returns-in_err-lines-clause-finds : goal.returns-in_err-lines-clause-finds
-returns-in_err-lines-clause-finds g c = λ tells.
-    let files = (g.F.Files.store c.args.files.now).contents in
-    let bytes = c.in_ok-bytes.bytes.items in
-    let fault = c.in_err-lines.field-0.0 in
-    let why = subst (λ (b : List ℕ). IsFaultOf b fault) c.as_slice.ensures.value c.in_err-lines.ensures.refused in
-    finds_fault _ _ c.from_residual-in_err-lines.ensures.1
-    (image_faulty c.args.profile files c.args.file.now bytes fault (c.in_ok-bytes.ensures.begins tells) why, refl)
-
-pub returns-in-Some-clause-finds : goal.returns-in-Some-clause-finds
-returns-in-Some-clause-finds g c = λ tells.
-    let lines = string_bytes c.in-Some.lines in
-    let shown = subst (λ o. IfSome o (λ text. SaysFields c.as_slice.result.now (string_bytes text))) c.in-Some.is
-    c.in_ok-lines.ensures.said in
-    let said = subst (λ (b : List ℕ). SaysFields b lines) c.as_slice.ensures.value shown in
-    finds_answer _ c.of_text.ensures.text c.of_text.ensures.status (
-      image_costs c.args.optimisation c.args.profile (g.F.Files.store c.args.files.now).contents c.args.file.now
-          c.in_ok-bytes.bytes.items lines (c.in_ok-bytes.ensures.begins tells) said,
+pub returns-in_err-joined-clause-finds : goal.returns-in_err-joined-clause-finds
+returns-in_err-joined-clause-finds g c = λ tells.
+    let some : 0 < length c.args.libraries.now = grind (arith, nat_tests, c.is_empty.ensures, c.if-is_empty.false) in
+    finds_fault _ _ c.from_residual.ensures.1 (
+      no_source (some_paths c.args.libraries.now (λ none. omega (arith, some, none)))
+          (no_sources (c.in_err-joined.ensures.refused tells)),
       refl,
-    ) refl
-
-pub returns-in-Some-clause-read : goal.returns-in-Some-clause-read
-returns-in-Some-clause-read g c = c.in_ok-bytes.ensures.calm
+    )
 
 pub returns-clause-finds : goal.returns-clause-finds
 returns-clause-finds g c = λ tells.
-    c.source_costs.ensures.finds _ (c.in_ok-bytes.ensures.begins tells)
-    (subst BeginsOtherwise c.as_slice.ensures.value (c.in_ok-lines.ensures.other (ap Ok c.in-None.is)))
+    let some : 0 < length c.args.libraries.now = grind (arith, nat_tests, c.is_empty.ensures, c.if-is_empty.false) in
+    source_measured c.in_ok-joined.joined.libraries.items c.joined_costs.result
+    (some_paths c.args.libraries.now (λ none. omega (arith, some, none))) (c.in_ok-joined.ensures.said tells)
+    c.joined_costs.ensures.said c.joined_costs.ensures.refused
+
+pub returns-in_err-joined-clause-read : goal.returns-in_err-joined-clause-read
+returns-in_err-joined-clause-read g c = read_fault _ _ _ _ c.from_residual.ensures.1 c.in_err-joined.ensures.counted
 
 pub returns-clause-read : goal.returns-clause-read
 returns-clause-read g c =
-    rw c.in_ok-bytes.ensures.calm (c.source_costs.ensures.read (g.F.Files.store c.args.files.now))
+    let before = g.F.Files.store c.args.files.now in
+    subst (λ (after : Store). IsRead c.joined_costs.result before after) (sym c.in_ok-joined.ensures.calm)
+    (c.joined_costs.ensures.read before)

@@ -168,7 +168,7 @@ pub returns-in-Certify-clause-part : goal.returns-in-Certify-clause-part
 returns-in-Certify-clause-part g c = λ files err.
     part_after c.in-Certify.is _ _ _ _ c.print-in-Certify.ensures (c.certify_image.ensures.part files err)
     (c.certify_image.ensures.told files err)
-    (certificate_reaches _ _ _ _ _ c.in-Certify.progress c.in-Certify.shifts)
+    (certificate_reaches _ _ _ _ _ c.in-Certify.options.progress c.in-Certify.options.shifts)
 
 pub returns-in-ElfCertify-clause-does : goal.returns-in-ElfCertify-clause-does
 returns-in-ElfCertify-clause-does g c = λ files out.

@@ -1,6 +1,6 @@
 use Rattle.std.proofs.Common.{◌≡◌, ◌++◌, List, ℕ, Option, Ok, Err, map, refl, ap₂, ◌∙◌, subst, inl}
 use Rattle.commands.specs.Below.{Arg, Certified, DrawsOne, fault_of_given_texts, Hidden, Param}
-use Rattle.commands.specs.Pictures.{before_certificate}
+use Rattle.commands.specs.Pictures.{asked_text, before_certificate}
 use Rattle.commands.specs.Words.{IsFaultOfWords}
 use Rattle.commands.proofs.CertificateLemmas.{stands_in_code}
 use Rattle.language.proofs.Handed.{handed_on}
@@ -26,6 +26,8 @@ returns-clause-said c =
     let certificate = c.in_ok-certificate.certificate in
     let told = c.in_ok-told.told.items in
     let page = c.in_ok-page.page.items in
+    let asked = asked_text c.args.path.now (map (λ word. word.now) c.args.arguments.now) in
+    let same : c.as_str.result.now ≡ asked = c.as_str.ensures.value ∙ c.in_ok-asked.ensures in
     let whole : c.as_slice-4.result.now ≡ before_certificate ++ told =
     c.as_slice-4.ensures.value ∙ c.in_ok-extend_from_slice.ensures.items
     ∙ ap₂ (λ (a b : List ℕ). a ++ b) c.in_ok-said.ensures.items c.as_slice-2.ensures.value in
@@ -39,8 +41,9 @@ returns-clause-said c =
           c.as_slice.ensures.value c.in_ok-certificate.ensures;
       printed = c.in_ok-told.ensures;
       drawn =
-          subst (λ (xs : List (Option Arg)). DrawsOne image xs (before_certificate ++ told) page)
+          subst (λ (xs : List (Option Arg)). DrawsOne image xs asked (before_certificate ++ told) page)
           c.as_slice-3.ensures.value
-          (subst (λ (said : List ℕ). DrawsOne image c.as_slice-3.result.now said page) whole
-          c.in_ok-page.ensures.exact);
+          (subst (λ (text : List ℕ). DrawsOne image c.as_slice-3.result.now text (before_certificate ++ told) page) same
+          (subst (λ (said : List ℕ). DrawsOne image c.as_slice-3.result.now c.as_str.result.now said page) whole
+          c.in_ok-page.ensures.exact));
     }

@@ -1,8 +1,7 @@
 -- The libraries before this one were read, and no file changed.
 use Rattle.std.proofs.Common.{◌≡◌, ◌≤◌, length, map, take, IsTrue}
 use Rattle.std.specs.String.{string_bytes}
-use Rattle.commands.specs.Below.{source_limit}
-use Rattle.commands.specs.Sources.{numbered_of}
+use Rattle.commands.specs.Below.{numbered_of, source_limit}
 use Rattle.commands.proofs.SourceLemmas.{AreRead}
 use Rattle.commands.proofs.sources.joined_text.Given as goal
 

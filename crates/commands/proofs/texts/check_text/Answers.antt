@@ -1,11 +1,11 @@
 use Rattle.std.proofs.Common.{List, ℕ, refl, ◌∙◌, subst}
 use Rattle.commands.specs.Answered.{not_answered}
-use Rattle.commands.specs.Below.{accepts, IsRefusalOf, Judges, program_tree}
-use Rattle.commands.specs.Judged.{no_sources, refused_text}
+use Rattle.commands.specs.Below.{accepts, Judges, program_tree}
+use Rattle.commands.specs.Judged.{no_sources}
 use Rattle.commands.specs.Sources.{no_memory}
 use Rattle.commands.proofs.AnswerLemmas.{finds_answer, finds_fault, finds_converted, read_fault, read_memory}
 use Rattle.commands.proofs.Counting.{tells_in_calm}
-use Rattle.commands.proofs.SourceLemmas.{tells_of}
+use Rattle.commands.proofs.SourceLemmas.{refused_as_lent, refused_in_sources}
 use Rattle.commands.proofs.texts.check_text.Goals as goal
 
 pub returns-in_err-joined-clause-finds : goal.returns-in_err-joined-clause-finds
@@ -40,13 +40,10 @@ returns-in-Ok-clause-finds g c = λ tells.
 
 pub returns-clause-finds : goal.returns-clause-finds
 returns-clause-finds g c = λ tells.
-    let read = c.in_ok-joined.ensures.said tells in
-    let refusal = c.in-Err.refusal in
     not_answered (
-      refused_text refusal read.holds
-          (subst (λ (source : List ℕ). IsRefusalOf c.args.profile source refusal) (c.as_str-text.ensures.value ∙ read.is)
-          c.in-Err.ensures.refused)
-          (tells_of read (c.as_str-text.ensures.value) (c.as_slice-read.ensures.value) c.refused_in.ensures),
+      refused_in_sources (c.in_ok-joined.ensures.said tells)
+          (refused_as_lent c.as_str-text.ensures.value c.as_slice-read.ensures.value c.in-Err.ensures.refused
+          c.refused_in.ensures),
       refl,
     )
 

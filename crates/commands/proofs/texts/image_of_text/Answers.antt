@@ -1,9 +1,9 @@
 use Rattle.std.proofs.Common.{List, ℕ, ◌∙◌, subst}
-use Rattle.commands.specs.Below.{IsBuilt, IsRefusalOf}
-use Rattle.commands.specs.Judged.{no_sources, refused_text}
+use Rattle.commands.specs.Below.{IsBuilt}
+use Rattle.commands.specs.Judged.{no_sources}
 use Rattle.language.proofs.Handed.{handed_on}
 use Rattle.commands.proofs.Counting.{tells_in_calm}
-use Rattle.commands.proofs.SourceLemmas.{tells_of}
+use Rattle.commands.proofs.SourceLemmas.{refused_as_lent, refused_in_sources}
 use Rattle.commands.proofs.texts.image_of_text.Goals as goal
 
 pub returns-in_err-joined-clause-refused : goal.returns-in_err-joined-clause-refused
@@ -28,12 +28,9 @@ returns-in-Ok-clause-said g c = λ tells.
 
 pub returns-clause-refused : goal.returns-clause-refused
 returns-clause-refused g c = λ tells.
-    let read = c.in_ok-joined.ensures.said tells in
-    let refusal = c.in-Err.refusal in
-    refused_text refusal read.holds
-    (subst (λ (source : List ℕ). IsRefusalOf c.args.options.profile source refusal)
-    (c.as_str-text.ensures.value ∙ read.is) c.in-Err.ensures.refused)
-    (tells_of read c.as_str-text.ensures.value c.as_slice-read.ensures.value c.refused_in.ensures)
+    refused_in_sources (c.in_ok-joined.ensures.said tells)
+    (refused_as_lent c.as_str-text.ensures.value c.as_slice-read.ensures.value c.in-Err.ensures.refused
+    c.refused_in.ensures)
 
 pub returns-clause-counted : goal.returns-clause-counted
 returns-clause-counted g c =
