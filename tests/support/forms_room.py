@@ -46,7 +46,7 @@ LOOPS = [
     ("optimisation/src/set_whole/statements.rt", "watch_iterations", "nothing is kept from iteration to iteration"),
     ("optimisation/src/live_words/statements.rt", "in_order", "the statements that it is given, each of which it takes away"),
     ("requests/src/changes.rt", "print_changes_at", "the values of a byte, of which each is answered and dropped"),
-    ("run_reports/src/pictures/painting.rt", "count_steps", "nothing is kept from step to step"),
+    ("run_reports/src/pictures/painting.rt", "length_of", "nothing is kept from step to step"),
     ("run_reports/src/pictures/painting.rt", "paint", "nothing is kept from step to step but in the cells of a page"),
     ("run_reports/src/progress/certifying.rt", "certify_in_pieces", "nothing is kept from piece to piece"),
     ("run_reports/src/progress/comparing.rt", "compare_telling", "nothing is kept from step to step"),

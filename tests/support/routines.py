@@ -13,6 +13,8 @@ LIBRARY = os.path.join(TOP, "routines")
 ALL = os.path.join(LIBRARY, "c", "routines.h")
 BOARD = os.path.join(TOP, "examples", "firmware")
 LINE = re.compile(r"^(\w+): (.*) = (.*)$")
+# A line at the head of a source that names libraries which are read before it.
+WITH = re.compile(r"^// (--with .*)$", re.MULTILINE)
 C = [*TARGET, *FREE, "-std=c99", "-O1", "-Wall", "-Wextra", "-Werror"]
 TYPES = {"bool": "bool", "uint8": "uint8_t", "uint16": "uint16_t", "uint32": "uint32_t"}
 # Those whose runs take long: a test runs their first vector alone.
@@ -61,6 +63,23 @@ def numbers(text):
     return [int(number, 0) for number in text.split(",")]
 
 
+def read(path):
+    with open(path, encoding="utf-8") as file:
+        return file.read()
+
+
+def libraries_of(source):
+    """The libraries that a source names."""
+    words = " ".join(WITH.findall(read(source))).split()
+    return [os.path.join(LIBRARY, word) for word in words if word != "--with"]
+
+
+def shared():
+    """The files of procedures that several sources share."""
+    folder = os.path.join(LIBRARY, "lib")
+    return sorted(os.path.join(folder, name) for name in os.listdir(folder))
+
+
 class Vector:
     """A call with what it has to give: the result first, where there is one, then the arrays that it changes."""
 
@@ -75,12 +94,12 @@ class Routine:
 
     def __init__(self, name):
         self.name = name
-        self.source = self.file(".fact")
-        with open(self.source, encoding="utf-8") as file:
-            self.text = file.read()
+        self.libraries = libraries_of(self.file(".fact"))
+        # how a command is told to read the source
+        self.source = [*(f"--with={path}" for path in self.libraries), self.file(".fact")]
+        self.text = "\n".join(read(path) for path in (*self.libraries, self.file(".fact")))
         self.signature = Signature(self.text)
-        with open(self.file(".vectors"), encoding="utf-8") as file:
-            lines = [line.rstrip("\n") for line in file]
+        lines = read(self.file(".vectors")).splitlines()
         self.vectors = [Vector(*LINE.match(line).groups()) for line in lines if line and not line.startswith("#")]
 
     def file(self, end):
