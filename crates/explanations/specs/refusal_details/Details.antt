@@ -14,7 +14,7 @@ abbrev pub begins_with_mark : List ℕ → Bool
 begins_with_mark bytes = starts_with nat_eq bytes (0xEF ∷ 0xBB ∷ 0xBF ∷ [])
 
 abbrev pub no_select : List ℕ
-no_select = codes "  there is no `c ? x : y`: write `select(c, x, y)` (docs/COOKBOOK.md)\n"
+no_select = codes "  there is no conditional operator: write `select(c, x, y)` (docs/COOKBOOK.md)\n"
 
 abbrev pub no_labels : List ℕ
 no_labels =

@@ -18,7 +18,8 @@ fn habit_line(bytes: &[u8]) -> &'static str
     ensures { result.now ≡ habit_line bytes.now }
 {
     match bytes.first() {
-        Some(b'?') => "  there is no `c ? x : y`: write `select(c, x, y)` (docs/COOKBOOK.md)\n",
+        Some(b'?') =>
+            "  there is no conditional operator: write `select(c, x, y)` (docs/COOKBOOK.md)\n",
         Some(b':') =>
             "  there are no labels, and a type stands before its name: `secret uint32 x = 1;` (docs/COOKBOOK.md)\n",
         Some(b'.') =>

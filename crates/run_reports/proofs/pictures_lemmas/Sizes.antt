@@ -1,6 +1,7 @@
 -- How long a page is at most.
 use Rattle.std.proofs.Common.{◌≡◌, ℕ, zero, suc, ◌+◌, ◌*◌, ◌/◌, ◌%◌, ◌-◌, ◌==◌, ◌≤◌, ◌<◌, ◌^◌, ◌&&◌, Bool, true, false}
-use Rattle.std.proofs.Common.{Option, Some, None, nat_lt, not, cond, take, drop, List, [], ◌∷◌, ◌++◌, length, length-append, replicate, codes, refl}
+use Rattle.std.proofs.Common.{Option, Some, None, nat_lt, not, cond, take, drop, List, [], ◌∷◌, ◌++◌, length}
+use Rattle.std.proofs.Common.{length-append, replicate, codes, refl}
 use Rattle.std.proofs.Common.{ap, arith}
 use Rattle.std.proofs.lemmas.List.{length-replicate, length-take, length-drop}
 use Rattle.std.proofs.lemmas.Fmt.{length-decimal-le}
