@@ -5,6 +5,8 @@ use Rattle.std.proofs.lemmas.Bool.Decides.{nat_tests}
 use Rattle.std.proofs.lemmas.List.{map-append}
 use Rattle.inline.proofs.CountLemmas.{block_alike, statement_alike}
 use Rattle.inline.specs.Counts.{AreCountsOf}
+use Rattle.inline.specs.Measured.{passed_by}
+use Rattle.inline.specs.declared.costs.SizeCosts.{SizeCosts}
 use Rattle.inline.specs.Below.{because, BlockTree, bodies_cost, bodies_of, bytes_cost, counted, counted_share}
 use Rattle.inline.specs.Below.{declared_bytes, excess, Extents, first, largest, limits_passed, most_bodies}
 use Rattle.inline.specs.Below.{most_counted, most_declared_bytes, most_nodes, nodes_cost, nodes_of, nothing, Place}
@@ -87,3 +89,16 @@ pub nodes_told : (counts extents : Extents) → AreCountsOf counts extents → (
     → (n ≤ most_nodes) × (n ≡ nodes_of counts p) → n ≡ nodes_of extents p
 nodes_told counts extents same p n is =
     omega (arith, is.0, is.1, ap (λ (c : Cost). c.whole) (nodes_alike counts extents same p))
+
+-- those that are passed by what an export costs
+pub passed_is : (extents : Extents) (p : ProcedureTree) (costs : SizeCosts) → costs.nodes ≡ nodes_cost extents p
+    → costs.bodies ≡ bodies_cost extents p → costs.declared_bytes ≡ bytes_cost extents p
+    → passed_by p.place costs ≡ limits_passed extents p
+passed_is extents p costs nodes bodies bytes =
+    let many = ap (λ (c : Cost). nat_lt most_nodes c.whole) nodes
+    ∙ counted_test most_nodes (nodes_of extents p) (omega arith) in
+    let deep = ap (λ (c : Cost). nat_lt most_bodies c.whole) bodies
+    ∙ counted_test most_bodies (bodies_of extents p) (omega arith) in
+    let long = ap (λ (c : Cost). nat_lt most_declared_bytes c.whole) bytes
+    ∙ counted_test most_declared_bytes (declared_bytes extents p) (omega arith) in
+    λ i. passed p.place (many i) (deep i) (long i) (nodes i) (bodies i) (bytes i)

@@ -76,3 +76,4 @@ pub use Rattle.language.specs.declared.typing.VariableType.{VariableType}
 pub use Rattle.language.specs.declared.typing.WordType.{WordType}
 pub use Rattle.language.specs.declared.values.Arg.{Arg}
 pub use Rattle.language.specs.declared.why.Share.{Share}
+pub use Rattle.findings.specs.Order.{AreInOrder}

@@ -5,14 +5,15 @@ ghost use Rattle.std.specs.Option.{option_map};
 ghost use Rattle.inline.specs.Kept.{IsFlat};
 ghost use Rattle.inline.specs.Numbering as numbered;
 ghost use Rattle.inline.specs.Numbering.{flattened};
-ghost use Rattle.inline.specs.Below.{exported, extents_of, IsRefusedFor, IsToldOf, IsWantOfMemory, nodes_of};
+ghost use Rattle.inline.specs.Below.{AreInOrder, exported, extents_of, IsRefusedFor, IsToldOf, IsWantOfMemory};
+ghost use Rattle.inline.specs.Below.{nodes_of};
 ghost use Rattle.inline.specs.Below.{procedure_tree, ProcedureTree, program_tree, return_tree, size_violations};
 
 use crate::Flat;
 use crate::numbering::Numbering;
-use crate::size_limits::measure;
+use crate::size_limits::{limits_passed, measure};
 use labels::Checked;
-use language::{Place, Procedure, Profile, Refusal, Return};
+use language::{Place, Procedure, Profile, Refusal, Return, Violation};
 use std::alloc::{AllocError, Global};
 
 /// Where a result stands.
@@ -105,4 +106,15 @@ pub fn inline(alloc: Global, checked: &Checked<'_>) -> Result<Flat, Refusal>
 {
     let (earlier, export) = checked.export();
     flat_of(alloc, checked.profile(), earlier, export)
+}
+
+/// All limits on size that the export of a checked program passes, in their order: first the one for which `inline`
+/// refuses it.
+pub fn violations(alloc: Global, checked: &Checked<'_>) -> Result<Vec<Violation>, AllocError>
+    ensures { IfOk result (λ found. (before : List ProcedureTree) × (p : ProcedureTree)
+        × (exported [] (program_tree checked.now.program.now).procedures ≡ Some (before, p))
+        × AreInOrder (size_violations before p) found.items) }
+{
+    let (earlier, export) = checked.export();
+    limits_passed(alloc, earlier, export)
 }

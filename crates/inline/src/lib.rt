@@ -20,7 +20,7 @@ mod typed;
 
 pub use costs::{SizeCosts, size_costs};
 pub use flat::{FlatStatement, FlatVariable, Stretch, Term};
-pub use inlining::inline;
+pub use inlining::{inline, violations};
 pub use laws::{
     flat_is_sized, flat_is_typed, flat_keeps_meaning, flat_values_fit, typed_values_fit,
 };

@@ -1,20 +1,21 @@
 // The limits on a program's size.
 
 ghost use Rattle.std.specs.Prelude.{◌≡◌, ◌<◌, ◌≤◌, ◌*◌, ◌||◌, [], is_none, length, map, nat_lt, IfErr, IfOk, IfSome};
-ghost use Rattle.inline.specs.Measured.{extents_in};
-ghost use Rattle.inline.specs.Below.{excess, extents_of, IsNamed, IsRefusedFor, IsToldOf, IsWantOfMemory};
+ghost use Rattle.inline.specs.Measured.{extents_in, passed_by};
+ghost use Rattle.inline.specs.Below.{AreInOrder, excess, extents_of, IsNamed, IsRefusedFor, IsToldOf, IsWantOfMemory};
 ghost use Rattle.inline.specs.Below.{limits_passed, most_bodies, most_declared_bytes, most_nodes, nodes_of};
 ghost use Rattle.inline.specs.Below.{procedure_tree, size_violations};
 
-use crate::costs::{SizeCosts, costs_of};
+use crate::costs::{SizeCosts, costs_of, size_costs};
 use crate::measured::{FlatSize, Measured};
 use crate::sizes::{measured_all, size_of_export};
+use findings::in_order;
 use language::names::Names;
 use language::{
     Counted, Excess, MOST_BODIES, MOST_DECLARED_BYTES, MOST_NODES, Place, Procedure, Refusal, Rule,
     Violation, Why,
 };
-use std::alloc::Global;
+use std::alloc::{AllocError, Global};
 
 /// How many nodes there are, where such a size passes no limit.
 fn nodes_within(size: FlatSize) -> Option<u32>
@@ -111,4 +112,37 @@ pub fn measure(alloc: Global, earlier: &[Procedure], export: &Procedure) -> Resu
         Ok(nodes) => Ok(nodes),
         Err(violation) => Err(Refusal::of(violation)),
     }
+}
+
+/// The limits that are passed by such costs, at this place.
+fn all_passed(alloc: Global, place: Place, costs: SizeCosts) -> Result<Vec<Violation>, AllocError>
+    ensures { IfOk result (λ passed. passed.items ≡ passed_by place costs) }
+{
+    let mut passed = Vec::new(alloc);
+    if costs.nodes.whole > u64::from(MOST_NODES) {
+        let excess = costs.nodes.excess(Counted::Nodes);
+        passed.push(too_much(place, Rule::InlinedSize, excess))?;
+    } else if costs.bodies.whole > u64::from(MOST_BODIES) {
+        let excess = costs.bodies.excess(Counted::Bodies);
+        passed.push(too_much(place, Rule::InlinedSize, excess))?;
+    }
+    if costs.declared_bytes.whole > u64::from(MOST_DECLARED_BYTES) {
+        let excess = costs.declared_bytes.excess(Counted::DeclaredBytes);
+        passed.push(too_much(place, Rule::DeclaredBytes, excess))?;
+    }
+    Ok(passed)
+}
+
+/// All limits on size that an export passes behind the procedures that it may call, in their order: first the one for
+/// which `measure` refuses it.
+pub fn limits_passed(
+    alloc: Global,
+    earlier: &[Procedure],
+    export: &Procedure,
+) -> Result<Vec<Violation>, AllocError>
+    ensures { IfOk result (λ found. AreInOrder
+        (size_violations (map procedure_tree earlier.now) (procedure_tree export.now)) found.items) }
+{
+    let costs = size_costs(alloc, earlier, export)?;
+    in_order(all_passed(alloc, export.place, costs)?)
 }

@@ -5,6 +5,7 @@ pub mod WorkLemmas
 mod CostLemmas
 pub mod BoundLemmas
 pub mod RefusalLemmas
+mod ListedLemmas
 pub mod StrictRuns
 pub mod Safe
 pub mod LooseTypes

@@ -1,9 +1,9 @@
 -- What branches and loops lead to, by the lists of their statements.
 use Rattle.std.proofs.lemmas.List.Sums.{fold-append}
-use Rattle.std.proofs.Common.{◌≡◌, ℕ, List, Option, Result, Ok, Err, OnOk, ◌++◌, Vec, Global, fold, slice_set, sym}
+use Rattle.std.proofs.Common.{◌≡◌, ℕ, List, Result, Ok, Err, OnOk, ◌++◌, Vec, Global, fold, slice_set, sym}
 use Rattle.std.proofs.Common.{ap, ap₂, ◌∙◌, ◌<◌, ◌+◌, length, drop, get_or, drop-cons, add-one}
 use Rattle.intervals.specs.Below.{Branch, branch, first, flat_block, flat_tree, FlatStatement, FlatVariable, Interval}
-use Rattle.intervals.specs.Below.{Label, Loop, loop, sooner, Term, term_tree, Violation}
+use Rattle.intervals.specs.Below.{Label, Loop, loop, Noted, noted, Term, term_tree, Violation}
 use Rattle.intervals.specs.Intervals.{Bounds, interval, with_bound}
 use Rattle.intervals.specs.Narrowing.{met, met_all, where_true, where_false}
 use Rattle.intervals.specs.declared.said.SaidOfVariable.{SaidOfVariable}
@@ -17,13 +17,13 @@ on_ok (Ok value) f p = f p
 on_ok (Err e) f p = tt
 
 -- three lists of violations, one after another
-three_parts : (seen one two last : Option Violation) (e f g : List Violation)
-    → one ≡ fold sooner seen e → two ≡ fold sooner one f → last ≡ fold sooner two g
-    → last ≡ fold sooner seen (e ++ f ++ g)
+three_parts : (seen one two last : Noted) (e f g : List Violation)
+    → one ≡ fold noted seen e → two ≡ fold noted one f → last ≡ fold noted two g
+    → last ≡ fold noted seen (e ++ f ++ g)
 three_parts seen one two last e f g a b c =
-    c ∙ (ap (λ s. fold sooner s g) (b
-    ∙ (ap (λ s. fold sooner s f) a ∙ sym (fold-append sooner seen e f)))
-    ∙ sym (fold-append sooner seen (e ++ f) g))
+    c ∙ (ap (λ s. fold noted s g) (b
+    ∙ (ap (λ s. fold noted s f) a ∙ sym (fold-append noted seen e f)))
+    ∙ sym (fold-append noted seen (e ++ f) g))
 
 module _ (declared : List FlatVariable) (bounds : Bounds) (statement : FlatStatement) where
   module _ (label : Label) (condition : Term) (accepted otherwise : Vec FlatStatement Global)
@@ -44,18 +44,18 @@ module _ (declared : List FlatVariable) (bounds : Bounds) (statement : FlatState
         (o ∙ ap₂ (λ b ts. counted_all declared (where_false declared b label (term_tree condition)) ts
         (flat_block others)) same a)
 
-    pub branch_seen : (seen of_condition of_accepted last : Option Violation)
-        → of_condition ≡ fold sooner seen (term_violations declared bounds (term_tree condition))
-        → of_accepted ≡ fold sooner of_condition
+    pub branch_seen : (seen of_condition of_accepted last : Noted)
+        → of_condition ≡ fold noted seen (term_violations declared bounds (term_tree condition))
+        → of_accepted ≡ fold noted of_condition
         (violations_all declared (where_true declared bounds label (term_tree condition)) (flat_block ones))
-        → last ≡ fold sooner of_accepted
+        → last ≡ fold noted of_accepted
         (violations_all declared (where_false declared between label (term_tree condition)) (flat_block others))
-        → last ≡ fold sooner seen (violations declared bounds (flat_tree statement))
+        → last ≡ fold noted seen (violations declared bounds (flat_tree statement))
     branch_seen seen of_condition of_accepted last c a o = rw tree
         (three_parts seen of_condition of_accepted last (term_violations declared bounds (term_tree condition))
         (violations_all declared (where_true declared bounds label (term_tree condition)) (flat_block ones))
         (violations_all declared (where_false declared bounds label (term_tree condition)) (flat_block others)) c a
-        (o ∙ ap (λ b. fold sooner of_accepted
+        (o ∙ ap (λ b. fold noted of_accepted
         (violations_all declared (where_false declared b label (term_tree condition)) (flat_block others))) same))
 
   module _ (counter : ℕ) (low high : Term) (body : Vec FlatStatement Global)
@@ -79,17 +79,17 @@ module _ (declared : List FlatVariable) (bounds : Bounds) (statement : FlatState
         let counted_here = c ∙ ap (slice_set iterations counter) (m ∙ ap₂ most_iterations at_low at_high) in
         rw whole (l ∙ ap₂ (λ bs ts. counted_all declared bs ts (flat_block ones)) inside counted_here)
 
-    pub loop_seen : (seen of_low of_high last : Option Violation)
-        → of_low ≡ fold sooner seen (term_violations declared bounds (term_tree low))
-        → of_high ≡ fold sooner of_low (term_violations declared bounds (term_tree high))
-        → last ≡ fold sooner of_high
+    pub loop_seen : (seen of_low of_high last : Noted)
+        → of_low ≡ fold noted seen (term_violations declared bounds (term_tree low))
+        → of_high ≡ fold noted of_low (term_violations declared bounds (term_tree high))
+        → last ≡ fold noted of_high
         (violations_all declared (with_bound bounds counter numbers) (flat_block ones))
-        → last ≡ fold sooner seen (violations declared bounds (flat_tree statement))
+        → last ≡ fold noted seen (violations declared bounds (flat_tree statement))
     loop_seen seen of_low of_high last l h t = rw whole
         (three_parts seen of_low of_high last (term_violations declared bounds (term_tree low))
         (term_violations declared bounds (term_tree high))
         (violations_all declared (in_loop declared bounds counter (term_tree low) (term_tree high)) (flat_block ones)) l h
-        (t ∙ ap (λ bs. fold sooner of_high (violations_all declared bs (flat_block ones))) inside))
+        (t ∙ ap (λ bs. fold noted of_high (violations_all declared bs (flat_block ones))) inside))
 
 -- what is left of the statements, the next one apart
 pub next_statement : (body : List FlatStatement) (i : ℕ) (d : FlatStatement) → i < length body

@@ -9,7 +9,6 @@ pub use Rattle.language.specs.FirstViolation.{IsFirst, IsNamed, IsNoLaterThan, I
 pub use Rattle.language.specs.Meaning.{gives}
 pub use Rattle.language.specs.Operators.{divides, multiplies, operated, operation_of, prefix_value, truth_of, width_of}
 pub use Rattle.language.specs.Shares.{cost_of, counted, counted_share, excess, larger, largest, most_counted}
-pub use Rattle.language.specs.Sooner.{sooner}
 pub use Rattle.language.specs.Types.{because, bits_of, is_secret, joined, when}
 pub use Rattle.language.specs.WellTyped.{arithmetic, division, equality, labelled, logic, Makes, multiplication, order}
 pub use Rattle.language.specs.WellTyped.{shift}
@@ -36,6 +35,9 @@ pub use Rattle.language.specs.declared.typing.WordType.{WordType}
 pub use Rattle.language.specs.declared.values.Arg.{Arg}
 pub use Rattle.language.specs.declared.why.Share.{Share}
 pub use Rattle.language.specs.declared.why.Why.TheVariants.{Divisor, Index, TooMuch}
+pub use Rattle.findings.specs.Noted.{Noted, noted}
+pub use Rattle.findings.specs.Order.{AreInOrder}
+pub use Rattle.findings.specs.Passes.{first_found}
 pub use Rattle.inline.specs.Fitting.{Fits, IsHeld, IsWithinKind}
 pub use Rattle.inline.specs.Flat.{array, array_as, assign, binary, branch, convert, declaration_of, declare, element}
 pub use Rattle.inline.specs.Flat.{elements_by, first, flat_block, flat_tree, FlatBlock, FlatProgram, FlatTree, hold}

@@ -22,4 +22,4 @@ pub use laws::{
 };
 pub use limits::{MOST_WORK, limits_are_as_stated};
 pub use ranged::Ranged;
-pub use ranges::check_ranges;
+pub use ranges::{check_ranges, violations};

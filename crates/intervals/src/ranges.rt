@@ -1,9 +1,9 @@
-ghost use Rattle.std.specs.Prelude.{◌≡◌, None, Some, fold, length, map, replicate, IfErr, IfOk, OnOk};
+ghost use Rattle.std.specs.Prelude.{◌≡◌, Some, fold, length, map, replicate, IfErr, IfOk, OnOk};
 ghost use Rattle.intervals.specs.Loose.{IsSafe};
 ghost use Rattle.intervals.specs.Ranges.{bound_by, bound_of, first_bounds, range_violations, result_violations};
 ghost use Rattle.intervals.specs.Ranges.{iterations_of};
 ghost use Rattle.intervals.specs.Work.{IsRefusedByRanges, IsToldByRanges, ranged, work_excess, work_violations};
-ghost use Rattle.intervals.specs.Below.{IsFirst, IsNamed, sooner, TellsOf};
+ghost use Rattle.intervals.specs.Below.{AreInOrder, first_found, IsFirst, IsNamed, noted, TellsOf};
 
 use crate::costs::program_cost;
 use crate::known::KnownBounds;
@@ -12,8 +12,9 @@ use crate::terms::note_term;
 use crate::walk::{Walk, statements};
 use crate::work::program_work;
 use crate::{Interval, MOST_WORK, Ranged};
+use findings::{Findings, in_order};
 use inline::Flat;
-use language::{Counted, First, Form, Label, Param, Refusal, Rule, Violation, Why};
+use language::{Counted, Form, Label, Param, Refusal, Rule, Violation, Why};
 use std::alloc::{AllocError, Global};
 
 /// What is known of a parameter: a public word is something of its kind.
@@ -53,10 +54,10 @@ fn first_bounds(alloc: Global, flat: &Flat) -> Result<Vec<Option<Interval>>, All
     Ok(bounds)
 }
 
-/// A walk over a whole program, which is safe where no range is passed.
-fn walked(alloc: Global, flat: &Flat) -> Result<Walk, AllocError>
+/// A walk over a whole program, behind what was found before: the program is safe where no range is passed.
+fn walked(alloc: Global, flat: &Flat, before: Findings) -> Result<Walk, AllocError>
     ensures iterations { IfOk result (λ walk. walk.iterations.items ≡ iterations_of flat.now) }
-    ensures found { IfOk result (λ walk. walk.first.seen ≡ fold sooner None (range_violations flat.now)) }
+    ensures findings { IfOk result (λ walk. walk.findings ≡ fold noted before (range_violations flat.now)) }
     ensures safe { OnOk result (length (range_violations flat.now) ≡ 0 → IsSafe flat.now (iterations_of flat.now)) }
 {
     let declared = flat.declared();
@@ -67,12 +68,12 @@ fn walked(alloc: Global, flat: &Flat) -> Result<Walk, AllocError>
             changes: Vec::new(alloc),
         },
         iterations: vec![in alloc; 0; declared.len()]?,
-        first: First { seen: None },
+        findings: before,
     };
     statements(declared, &mut walk, flat.body())?;
     if let Some(value) = flat.value() {
         note_term(
-            &mut walk.first,
+            &mut walk.findings,
             declared,
             walk.known.bounds.as_slice(),
             value,
@@ -123,9 +124,35 @@ pub fn check_ranges<'f>(alloc: Global, flat: &'f Flat) -> Result<Ranged<'f>, Ref
     ensures refused { IfErr result (λ refusal. IsRefusedByRanges flat.now refusal.rule refusal.place) }
     ensures told { IfErr result (IsToldByRanges flat.now) }
 {
-    let walk = walked(alloc, flat)?;
-    match walk.first.seen {
+    let walk = walked(alloc, flat, Findings::new(alloc))?;
+    match walk.findings.first() {
         Some(first) => Err(Refusal::of(first)),
         None => with_work(flat, walk.iterations),
     }
+}
+
+/// What a body violates whose work is above the limit.
+fn work_passed(alloc: Global, iterations: &[u32], flat: &Flat) -> Result<Vec<Violation>, AllocError>
+    requires { iterations.now ≡ iterations_of flat.now }
+    ensures { IfOk result (λ passed. passed.items ≡ work_violations flat.now) }
+{
+    let mut passed = Vec::new(alloc);
+    if program_work(iterations, flat) > MOST_WORK {
+        passed.push(too_much_work(iterations, flat))?;
+    }
+    Ok(passed)
+}
+
+/// All indices that may be outside their arrays and divisors that may be 0, in their order; or else, where there are
+/// none, the work that is above the limit: first what `check_ranges` refuses the body for.
+pub fn violations(alloc: Global, flat: &Flat) -> Result<Vec<Violation>, AllocError>
+    ensures { IfOk result (λ found.
+        AreInOrder (first_found (range_violations flat.now) (work_violations flat.now)) found.items) }
+{
+    let counted = walked(alloc, flat, Findings::new(alloc))?;
+    if counted.findings.first().is_none() {
+        return in_order(work_passed(alloc, counted.iterations.as_slice(), flat)?);
+    }
+    let room = counted.findings.again(alloc)?;
+    walked(alloc, flat, room)?.findings.in_order()
 }

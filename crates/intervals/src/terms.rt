@@ -1,5 +1,5 @@
 ghost use Rattle.std.specs.Prelude.{◌≡◌, fold, map};
-ghost use Rattle.intervals.specs.Below.{sooner, term_tree, variable};
+ghost use Rattle.intervals.specs.Below.{noted, term_tree, variable};
 ghost use Rattle.intervals.specs.Intervals.{full_at, interval};
 ghost use Rattle.intervals.specs.Ranges.{index_violations, term_violations, terms_violations};
 
@@ -8,8 +8,9 @@ use crate::known::bound_of;
 use crate::operators::{
     EITHER_TRUTH, converted_interval, full, full_of, hull, operated_interval, prefix_interval,
 };
+use findings::Findings;
 use inline::{FlatVariable, Term};
-use language::{First, IndexRange, Kind, Place, Rule, Why};
+use language::{IndexRange, Kind, Place, Rule, Why};
 
 /// All that a variable, or an element of an array, may be.
 pub fn full_at(declared: &[FlatVariable], variable: u32) -> Interval
@@ -61,11 +62,11 @@ pub fn interval(declared: &[FlatVariable], bounds: &[Option<Interval>], term: &T
 }
 
 /// Notes an index of this interval that may not be below the size of its array.
-pub fn note_index(first: &mut First, place: Place, size: u32, index: Interval)
-    ensures { first.new.seen ≡ fold sooner first.old.seen (index_violations place size index) }
+pub fn note_index(findings: &mut Findings, place: Place, size: u32, index: Interval)
+    ensures { findings.new ≡ fold noted findings.old (index_violations place size index) }
 {
     let length = size;
-    first.note(
+    findings.note(
         length <= index.high,
         place,
         Rule::IndexOutOfRange,
@@ -75,14 +76,14 @@ pub fn note_index(first: &mut First, place: Place, size: u32, index: Interval)
 
 /// Notes the indices and divisors of an expression that are out of range, and gives its interval.
 pub fn note_term(
-    first: &mut First,
+    findings: &mut Findings,
     declared: &[FlatVariable],
     bounds: &[Option<Interval>],
     term: &Term,
 ) -> Interval
     ensures interval { result ≡ interval declared.now bounds.now (term_tree term.now) }
-    ensures first { first.new.seen
-        ≡ fold sooner first.old.seen (term_violations declared.now bounds.now (term_tree term.now)) }
+    ensures findings { findings.new
+        ≡ fold noted findings.old (term_violations declared.now bounds.now (term_tree term.now)) }
 {
     match term {
         Term::Number(value, _) => Interval {
@@ -92,14 +93,14 @@ pub fn note_term(
         Term::Truth(_) => EITHER_TRUTH,
         Term::Variable(x) => interval_of(declared, bounds, *x),
         Term::Prefix(operator, width, operand) => {
-            note_term(first, declared, bounds, operand);
+            note_term(findings, declared, bounds, operand);
             prefix_interval(*operator, *width)
         }
         Term::Binary(place, operator, width, left, right) => {
-            let left = note_term(first, declared, bounds, left);
-            let right = note_term(first, declared, bounds, right);
+            let left = note_term(findings, declared, bounds, left);
+            let right = note_term(findings, declared, bounds, right);
             let may_be_zero = operator.divides() && right.low == 0;
-            first.note(
+            findings.note(
                 may_be_zero,
                 *place,
                 Rule::DivisorMayBeZero,
@@ -108,20 +109,20 @@ pub fn note_term(
             operated_interval(*operator, *width, left, right)
         }
         Term::Rotate(width, operand, _) => {
-            note_term(first, declared, bounds, operand);
+            note_term(findings, declared, bounds, operand);
             full(*width)
         }
         Term::Convert(kind, operand) => {
-            converted_interval(*kind, note_term(first, declared, bounds, operand))
+            converted_interval(*kind, note_term(findings, declared, bounds, operand))
         }
         Term::Select(condition, accepted, otherwise) => {
-            note_term(first, declared, bounds, condition);
-            let accepted = note_term(first, declared, bounds, accepted);
-            hull(accepted, note_term(first, declared, bounds, otherwise))
+            note_term(findings, declared, bounds, condition);
+            let accepted = note_term(findings, declared, bounds, accepted);
+            hull(accepted, note_term(findings, declared, bounds, otherwise))
         }
         Term::Element(place, x, size, index) => {
-            let index = note_term(first, declared, bounds, index);
-            note_index(first, *place, *size, index);
+            let index = note_term(findings, declared, bounds, index);
+            note_index(findings, *place, *size, index);
             full_at(declared, *x)
         }
     }
@@ -129,15 +130,15 @@ pub fn note_term(
 
 /// Notes what is out of range in expressions.
 pub fn note_terms(
-    first: &mut First,
+    findings: &mut Findings,
     declared: &[FlatVariable],
     bounds: &[Option<Interval>],
     terms: &[Term],
 )
-    ensures { first.new.seen
-        ≡ fold sooner first.old.seen (terms_violations declared.now bounds.now (map term_tree terms.now)) }
+    ensures { findings.new
+        ≡ fold noted findings.old (terms_violations declared.now bounds.now (map term_tree terms.now)) }
 {
     for term in terms {
-        note_term(first, declared, bounds, term);
+        note_term(findings, declared, bounds, term);
     }
 }

@@ -1,7 +1,7 @@
 // A walk over a body: what is known of its variables from statement to statement.
 
 ghost use Rattle.std.specs.Prelude.{◌≡◌, fold, map, slice_set, OnOk};
-ghost use Rattle.intervals.specs.Below.{flat_block, flat_tree, sooner, term_tree};
+ghost use Rattle.intervals.specs.Below.{flat_block, flat_tree, noted, term_tree};
 ghost use Rattle.intervals.specs.Intervals.{with_bound};
 ghost use Rattle.intervals.specs.Narrowing.{where_false, where_true};
 ghost use Rattle.intervals.specs.Ranges.{bounds_after, bounds_after_all, counted, counted_all, counter_interval};
@@ -12,8 +12,9 @@ use crate::Interval;
 use crate::known::KnownBounds;
 use crate::narrowing::{learn_false, learn_true};
 use crate::terms::{note_index, note_term, note_terms};
+use findings::Findings;
 use inline::{FlatStatement, FlatVariable, Term};
-use language::{First, Label, WordType};
+use language::{Label, WordType};
 use std::alloc::AllocError;
 
 /// What a walk gathers.
@@ -22,7 +23,7 @@ pub struct Walk {
     pub known: KnownBounds,
     /// The iterations of each loop, at its counter's number.
     pub iterations: Vec<u32>,
-    pub first: First,
+    pub findings: Findings,
 }
 
 /// Whether a variable keeps its value, and is public.
@@ -77,47 +78,47 @@ fn statement(
     ensures from { OnOk result (CameFrom walk.old.known walk.new.known) }
     ensures iterations { OnOk result (walk.new.iterations.items
         ≡ counted declared.now walk.old.known.bounds.items walk.old.iterations.items (flat_tree statement.now)) }
-    ensures first { OnOk result (walk.new.first.seen
-        ≡ fold sooner walk.old.first.seen
+    ensures findings { OnOk result (walk.new.findings
+        ≡ fold noted walk.old.findings
         (violations declared.now walk.old.known.bounds.items (flat_tree statement.now))) }
 {
     let bounds = walk.known.bounds.as_slice();
     match statement {
         FlatStatement::Declare(x, word, mutable, value) => {
-            let value = note_term(&mut walk.first, declared, bounds, value);
+            let value = note_term(&mut walk.findings, declared, bounds, value);
             if is_steady(*word, *mutable) {
                 walk.known.set(*x, value)?;
             }
             Ok(())
         }
         FlatStatement::DeclareArray(_, _, _, _, values) => {
-            note_terms(&mut walk.first, declared, bounds, values.as_slice());
+            note_terms(&mut walk.findings, declared, bounds, values.as_slice());
             Ok(())
         }
         FlatStatement::Assign(_, value) => {
-            note_term(&mut walk.first, declared, bounds, value);
+            note_term(&mut walk.findings, declared, bounds, value);
             Ok(())
         }
         FlatStatement::AssignElement(place, _, size, index, value) => {
-            let index = note_term(&mut walk.first, declared, bounds, index);
-            note_index(&mut walk.first, *place, *size, index);
-            note_term(&mut walk.first, declared, bounds, value);
+            let index = note_term(&mut walk.findings, declared, bounds, index);
+            note_index(&mut walk.findings, *place, *size, index);
+            note_term(&mut walk.findings, declared, bounds, value);
             Ok(())
         }
         FlatStatement::Hold(x, place, size, index) => {
-            let held = note_term(&mut walk.first, declared, bounds, index);
-            note_index(&mut walk.first, *place, *size, held);
+            let held = note_term(&mut walk.findings, declared, bounds, index);
+            note_index(&mut walk.findings, *place, *size, held);
             walk.known.set(*x, held)
         }
         FlatStatement::Skip => Ok(()),
         FlatStatement::Branch(label, condition, accepted, otherwise) => {
-            note_term(&mut walk.first, declared, bounds, condition);
+            note_term(&mut walk.findings, declared, bounds, condition);
             accepted_arm(declared, walk, accepted.as_slice(), *label, condition)?;
             otherwise_arm(declared, walk, otherwise.as_slice(), *label, condition)
         }
         FlatStatement::Loop(counter, low, high, body) => {
-            let low = note_term(&mut walk.first, declared, bounds, low);
-            let high = note_term(&mut walk.first, declared, bounds, high);
+            let low = note_term(&mut walk.findings, declared, bounds, low);
+            let high = note_term(&mut walk.findings, declared, bounds, high);
             count(&mut walk.iterations, *counter, most_iterations(low, high));
             let numbers = counter_interval(low, high);
             iterations(declared, walk, *counter, numbers, body.as_slice())
@@ -140,8 +141,8 @@ fn accepted_arm(
         ≡ counted_all declared.now
         (where_true declared.now walk.old.known.bounds.items label (term_tree condition.now)) walk.old.iterations.items
         (flat_block arm.now)) }
-    ensures first { OnOk result (walk.new.first.seen
-        ≡ fold sooner walk.old.first.seen (violations_all declared.now
+    ensures findings { OnOk result (walk.new.findings
+        ≡ fold noted walk.old.findings (violations_all declared.now
         (where_true declared.now walk.old.known.bounds.items label (term_tree condition.now)) (flat_block arm.now))) }
 {
     let outside = walk.known.mark();
@@ -166,8 +167,8 @@ fn otherwise_arm(
         ≡ counted_all declared.now
         (where_false declared.now walk.old.known.bounds.items label (term_tree condition.now)) walk.old.iterations.items
         (flat_block arm.now)) }
-    ensures first { OnOk result (walk.new.first.seen
-        ≡ fold sooner walk.old.first.seen (violations_all declared.now
+    ensures findings { OnOk result (walk.new.findings
+        ≡ fold noted walk.old.findings (violations_all declared.now
         (where_false declared.now walk.old.known.bounds.items label (term_tree condition.now)) (flat_block arm.now))) }
 {
     let outside = walk.known.mark();
@@ -191,8 +192,8 @@ fn iterations(
     ensures iterations { OnOk result (walk.new.iterations.items
         ≡ counted_all declared.now
         (with_bound walk.old.known.bounds.items counter numbers) walk.old.iterations.items (flat_block body.now)) }
-    ensures first { OnOk result (walk.new.first.seen
-        ≡ fold sooner walk.old.first.seen
+    ensures findings { OnOk result (walk.new.findings
+        ≡ fold noted walk.old.findings
         (violations_all declared.now (with_bound walk.old.known.bounds.items counter numbers) (flat_block body.now))) }
 {
     let outside = walk.known.mark();
@@ -214,8 +215,8 @@ pub fn statements(
     ensures from { OnOk result (CameFrom walk.old.known walk.new.known) }
     ensures iterations { OnOk result (walk.new.iterations.items
         ≡ counted_all declared.now walk.old.known.bounds.items walk.old.iterations.items (flat_block body.now)) }
-    ensures first { OnOk result (walk.new.first.seen
-        ≡ fold sooner walk.old.first.seen
+    ensures findings { OnOk result (walk.new.findings
+        ≡ fold noted walk.old.findings
         (violations_all declared.now walk.old.known.bounds.items (flat_block body.now))) }
 {
     for one in body {

@@ -6,13 +6,14 @@ use Rattle.std.proofs.ByRecursion.{All-get_or, All-take}
 use Rattle.std.specs.List.{AllByRecursion}
 use Rattle.std.specs.Option.{option_map}
 use Rattle.std.proofs.lemmas.List.{get_or-map, length-map, take-map}
+use Rattle.std.proofs.lemmas.List.Sums.{fold-append}
 use Rattle.std.proofs.lemmas.Option.{slice_get-map, slice_get_read, slice_get_within}
 use Rattle.labels.specs.Below.{empty, export_place, export_violations, exported, exports, Place, procedure_tree}
-use Rattle.labels.specs.Below.{procedures_violations, ProcedureTree, ProgramTree, sooner, Violation, violations}
+use Rattle.labels.specs.Below.{procedures_violations, ProcedureTree, ProgramTree, Noted, noted, nothing_within, sooner}
+use Rattle.labels.specs.Below.{Violation, violations}
 use Rattle.word.specs.declared.profile.Profile.{Profile}
 use Rattle.language.specs.declared.tree.Procedure.{Procedure}
 use Rattle.labels.specs.Exports.{export_index}
-use Rattle.language.proofs.SoonerLemmas.{kept_over}
 
 -- the exported procedure, and those before it, if there is one
 abbrev pub Export : Type 0
@@ -131,19 +132,24 @@ module _ (profile : Profile) (items slice : List Procedure) (same : slice ≡ it
   abbrev trees : List ProcedureTree
   trees = map procedure_tree items
 
-  -- the first violation
-  pub seen_over : (a b : Option Violation)
-      → a ≡ fold sooner None (export_violations (exports (map procedure_tree slice)))
-      → b ≡ fold sooner a (procedures_violations [] (empty profile) (map procedure_tree slice))
-      → b ≡ fold sooner None (violations profile (record { procedures = trees }))
-  seen_over a b h k =
-      rw (← same) (kept_over a b (export_violations (exports (map procedure_tree slice)))
-      (procedures_violations [] (empty profile) (map procedure_tree slice)) h k)
+  -- what is found
+  pub found_over : (before a b : Noted)
+      → a ≡ fold noted before (export_violations (exports (map procedure_tree slice)))
+      → b ≡ fold noted a (procedures_violations [] (empty profile) (map procedure_tree slice))
+      → b ≡ fold noted before (violations profile (record { procedures = trees }))
+  found_over before a b h k =
+      rw (← same) (k ∙ ap (λ (found : Noted). fold noted found
+      (procedures_violations [] (empty profile) (map procedure_tree slice))) h
+      ∙ sym (fold-append noted before (export_violations (exports (map procedure_tree slice)))
+      (procedures_violations [] (empty profile) (map procedure_tree slice))))
 
-  pub seen_same : (seen : Option Violation)
-      → seen ≡ fold sooner None (violations profile (record { procedures = map procedure_tree slice }))
-      → seen ≡ fold sooner None (violations profile (record { procedures = trees }))
-  seen_same seen h = rw (← same) h
+  -- and the first of it
+  pub first_same : (before found : Noted) (first : Option Violation) → before ≡ nothing_within 0
+      → found ≡ fold noted before (violations profile (record { procedures = map procedure_tree slice }))
+      → ((all : List Violation) → found ≡ fold noted (nothing_within 0) all → first ≡ fold sooner None all)
+      → first ≡ fold sooner None (violations profile (record { procedures = trees }))
+  first_same before found first none h of_all =
+      of_all (violations profile (record { procedures = trees })) (rw (← same, ← none) h)
 
   indexed : (index : Option ℕ) → index ≡ export_index (exported [] (map procedure_tree slice))
       → export_index (exported [] trees) ≡ index

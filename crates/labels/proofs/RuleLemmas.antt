@@ -1,12 +1,12 @@
 -- Arguments at one call, asked one after the other.
-use Rattle.std.proofs.Common.{◌≡◌, ◌<◌, ◌+◌, ℕ, Bool, true, false, not, ◌&&◌, Option, List, [], ◌∷◌, ◌++◌, fold, map, drop}
+use Rattle.std.proofs.Common.{◌≡◌, ◌<◌, ◌+◌, ℕ, Bool, true, false, not, ◌&&◌, List, [], ◌∷◌, ◌++◌, fold, map, drop}
 use Rattle.std.proofs.Common.{length, refl, ap, sym, ◌∙◌, arith}
 use Rattle.std.proofs.Math.ListN.{get_or}
 use Rattle.std.proofs.lemmas.List.{drop_more}
 use Rattle.std.proofs.lemmas.List.Sums.{fold-append}
 use Rattle.labels.specs.Below.{are_alike, are_met, Argument, argument_violations, argument_why, because_of, Expr}
 use Rattle.labels.specs.Below.{expr_tree, is_hidden, is_secret, Parameter, parameter_tree, Passed, passed}
-use Rattle.labels.specs.Below.{passed_violations, Place, put_why, Scope, SecretToPublic, sooner, Typed, value_rules}
+use Rattle.labels.specs.Below.{passed_violations, Place, put_why, Scope, SecretToPublic, Noted, noted, Typed, value_rules}
 use Rattle.labels.specs.Below.{Violation, when, widths_differ, WidthsDiffer, Word, WrongKind}
 use Rattle.language.specs.declared.typing.WordType.{WordType}
 use Rattle.language.specs.declared.why.TypedPart.{TypedPart}
@@ -53,12 +53,12 @@ module _ (p : Parameter) (t : Typed) (i : ℕ) (scope : Scope) (place : Place) (
   from-met met fits all so_far one =
       met_more met fits all this rest (ap (λ (l : List Violation). met && are_met l) (sym from-more) ∙ so_far) one
 
-  pub from-noted : (seen later final : Option Violation)
-      → fold sooner seen (violated_from i scope place ps ts es) ≡ final → later ≡ fold sooner seen this
-      → fold sooner later rest ≡ final
+  pub from-noted : (seen later final : Noted)
+      → fold noted seen (violated_from i scope place ps ts es) ≡ final → later ≡ fold noted seen this
+      → fold noted later rest ≡ final
   from-noted seen later final so_far one =
-      ap (λ s. fold sooner s rest) one ∙ sym (fold-append sooner seen this rest)
-      ∙ ap (fold sooner seen) (sym from-more) ∙ so_far
+      ap (λ s. fold noted s rest) one ∙ sym (fold-append noted seen this rest)
+      ∙ ap (fold noted seen) (sym from-more) ∙ so_far
 
 -- what a word violates as a value it violates as an argument, for the same reasons
 pub put_as_argument : (place : Place) (wanted : TypedPart) (word : WordType) (given : Typed)

@@ -8,9 +8,9 @@ use Rattle.labels.specs.Below.{array, asked_of_one, asked_of_two, at, block_tree
 use Rattle.labels.specs.Below.{bounds_rules, bounds_why, condition_rules, condition_why, control_under, counter_as}
 use Rattle.labels.specs.Below.{declaration, declared, declared_array, declared_as, Expr, expr_tree, expr_violations}
 use Rattle.labels.specs.Below.{first, For, found, If, NameDeclaredTwice, nothing, parameter_as, ParameterTree, Place}
-use Rattle.labels.specs.Below.{ProcedureTree, Scope, scope_after, scope_after_all, SecretControl, shortened, sooner}
+use Rattle.labels.specs.Below.{ProcedureTree, Scope, scope_after, scope_after_all, SecretControl, shortened, Noted, noted}
 use Rattle.labels.specs.Below.{Statement, statement_tree, statement_violations, StatementTree, Typed, typed_of}
-use Rattle.labels.specs.Below.{Violation, when, with_parameters}
+use Rattle.labels.specs.Below.{when, with_parameters}
 use Rattle.language.specs.declared.tree.Counter.{Counter}
 use Rattle.language.proofs.BlockLemmas.{conditional_tree, loop_tree}
 use Rattle.language.specs.declared.typing.Declared.{Declared}
@@ -113,65 +113,65 @@ scope_before_body n scope ps b many even =
     shortened_longer n many even (longer_twice (parameters_more ps scope) (all_more b (with_parameters scope ps)))
 
 -- what a conditional violates, by the lists of its arms
-conditional_violations : (seen : Option Violation) (earlier : List ProcedureTree) (scope : Scope) (control : Option SecretControl)
+conditional_violations : (seen : Noted) (earlier : List ProcedureTree) (scope : Scope) (control : Option SecretControl)
     (statement : Statement) (place : Place) (condition : Expr) (accepted otherwise : Vec Statement Global)
     → statement ≡ If place condition accepted otherwise →
-    fold sooner seen (statement_violations earlier scope control (statement_tree statement))
-    ≡ fold sooner (fold sooner (fold sooner (fold sooner seen (expr_violations scope (expr_tree condition)))
+    fold noted seen (statement_violations earlier scope control (statement_tree statement))
+    ≡ fold noted (fold noted (fold noted (fold noted seen (expr_violations scope (expr_tree condition)))
     (asked_of_one condition_why place condition_rules (typed_of scope (expr_tree condition))))
     (block_violations earlier scope (control_under place control (typed_of scope (expr_tree condition)))
     (block_tree accepted.items)))
     (block_violations earlier scope (control_under place control (typed_of scope (expr_tree condition)))
     (block_tree otherwise.items))
 conditional_violations seen earlier scope control statement place condition accepted otherwise is =
-    ap (λ s. fold sooner seen (statement_violations earlier scope control s)) (ap statement_tree is
-    ∙ conditional_tree place condition accepted otherwise) ∙ simp (fold-append sooner)
+    ap (λ s. fold noted seen (statement_violations earlier scope control s)) (ap statement_tree is
+    ∙ conditional_tree place condition accepted otherwise) ∙ simp (fold-append noted)
 
 -- the same, from what each part has noted: the condition, what is asked of it, and both arms
-pub conditional_seen : (seen of_condition noted of_accepted of_both : Option Violation) (earlier : List ProcedureTree)
+pub conditional_seen : (seen of_condition of_asked of_accepted of_both : Noted) (earlier : List ProcedureTree)
     (scope between : Scope) (control under : Option SecretControl) (type : Option Typed) (statement : Statement)
     (place : Place) (condition : Expr) (accepted otherwise : Vec Statement Global) (ones others : List Statement)
     → statement ≡ If place condition accepted otherwise → ones ≡ accepted.items → others ≡ otherwise.items →
     type ≡ typed_of scope (expr_tree condition) → under ≡ control_under place control type → between ≡ scope →
-    of_condition ≡ fold sooner seen (expr_violations scope (expr_tree condition))
-    → noted ≡ fold sooner of_condition (asked_of_one condition_why place condition_rules type) →
-    of_accepted ≡ fold sooner noted (block_violations earlier scope under (block_tree ones))
-    → of_both ≡ fold sooner of_accepted (block_violations earlier between under (block_tree others)) →
-    of_both ≡ fold sooner seen (statement_violations earlier scope control (statement_tree statement))
-conditional_seen seen of_condition noted of_accepted of_both earlier scope between control under type statement place
+    of_condition ≡ fold noted seen (expr_violations scope (expr_tree condition))
+    → of_asked ≡ fold noted of_condition (asked_of_one condition_why place condition_rules type) →
+    of_accepted ≡ fold noted of_asked (block_violations earlier scope under (block_tree ones))
+    → of_both ≡ fold noted of_accepted (block_violations earlier between under (block_tree others)) →
+    of_both ≡ fold noted seen (statement_violations earlier scope control (statement_tree statement))
+conditional_seen seen of_condition of_asked of_accepted of_both earlier scope between control under type statement place
     condition accepted otherwise ones others is first_arm second_arm typed label same e n a o =
     let whole = conditional_violations seen earlier scope control statement place condition accepted otherwise is in
     cc
 
 -- what a loop violates, by the list of its body
-loop_violations : (seen : Option Violation) (earlier : List ProcedureTree) (scope : Scope) (control : Option SecretControl)
+loop_violations : (seen : Noted) (earlier : List ProcedureTree) (scope : Scope) (control : Option SecretControl)
     (statement : Statement) (place : Place) (counter : Counter) (low high : Expr) (body : Vec Statement Global)
     → statement ≡ For place counter low high body →
-    fold sooner seen (statement_violations earlier scope control (statement_tree statement))
-    ≡ fold sooner
-    (fold sooner (fold sooner (fold sooner seen (expr_violations scope (expr_tree low)))
+    fold noted seen (statement_violations earlier scope control (statement_tree statement))
+    ≡ fold noted
+    (fold noted (fold noted (fold noted seen (expr_violations scope (expr_tree low)))
     (expr_violations scope (expr_tree high)))
     (asked_of_two bounds_why place bounds_rules (typed_of scope (expr_tree low)) (typed_of scope (expr_tree high))))
     (at counter.place (when (is_some (found scope counter.name)) NameDeclaredTwice)
     ++ block_violations earlier (declared scope counter.place counter.name counter_as) control (block_tree body.items))
 loop_violations seen earlier scope control statement place counter low high body is =
-    ap (λ s. fold sooner seen (statement_violations earlier scope control s)) (ap statement_tree is
-    ∙ loop_tree place counter low high body) ∙ simp (fold-append sooner)
+    ap (λ s. fold noted seen (statement_violations earlier scope control s)) (ap statement_tree is
+    ∙ loop_tree place counter low high body) ∙ simp (fold-append noted)
 
 -- the same, from what each part has noted: the bounds, what is asked of them, and the iterations
-pub loop_seen : (seen of_low of_high noted of_iterations : Option Violation) (earlier : List ProcedureTree)
+pub loop_seen : (seen of_low of_high of_asked of_iterations : Noted) (earlier : List ProcedureTree)
     (scope : Scope)
     (control : Option SecretControl) (lower upper : Option Typed) (statement : Statement) (place : Place) (counter : Counter)
     (low high : Expr) (body : Vec Statement Global) (ones : List Statement)
     → statement ≡ For place counter low high body → ones ≡ body.items →
     lower ≡ typed_of scope (expr_tree low) → upper ≡ typed_of scope (expr_tree high) →
-    of_low ≡ fold sooner seen (expr_violations scope (expr_tree low))
-    → of_high ≡ fold sooner of_low (expr_violations scope (expr_tree high)) →
-    noted ≡ fold sooner of_high (asked_of_two bounds_why place bounds_rules lower upper) →
-    of_iterations ≡ fold sooner noted (at counter.place (when (is_some (found scope counter.name)) NameDeclaredTwice)
+    of_low ≡ fold noted seen (expr_violations scope (expr_tree low))
+    → of_high ≡ fold noted of_low (expr_violations scope (expr_tree high)) →
+    of_asked ≡ fold noted of_high (asked_of_two bounds_why place bounds_rules lower upper) →
+    of_iterations ≡ fold noted of_asked (at counter.place (when (is_some (found scope counter.name)) NameDeclaredTwice)
     ++ block_violations earlier (declared scope counter.place counter.name counter_as) control (block_tree ones)) →
-    of_iterations ≡ fold sooner seen (statement_violations earlier scope control (statement_tree statement))
-loop_seen seen of_low of_high noted of_iterations earlier scope control lower upper statement place counter low high
+    of_iterations ≡ fold noted seen (statement_violations earlier scope control (statement_tree statement))
+loop_seen seen of_low of_high of_asked of_iterations earlier scope control lower upper statement place counter low high
     body
     ones is items typed typed' l h n t =
     let whole = loop_violations seen earlier scope control statement place counter low high body is in cc

@@ -51,3 +51,5 @@ pub use Rattle.language.specs.declared.why.Part.TheVariants.{Argument, Value}
 pub use Rattle.language.specs.declared.why.SecretControl.{SecretControl}
 pub use Rattle.language.specs.declared.why.Typed.{Typed}
 pub use Rattle.language.specs.declared.why.Why.TheVariants.{ArgumentCounts, Number}
+pub use Rattle.findings.specs.Noted.{Noted, noted, nothing_within}
+pub use Rattle.findings.specs.Order.{AreInOrder}

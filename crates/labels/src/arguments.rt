@@ -1,13 +1,14 @@
 ghost use Rattle.std.specs.Prelude.{◌≡◌, ◌&&◌, fold, length, map};
 ghost use Rattle.labels.specs.Below.{are_met, argument_declared, argument_variable, argument_violations, expr_tree};
 ghost use Rattle.labels.specs.Below.{is_immutable, is_mutable, parameter_tree, parameter_value, passed};
-ghost use Rattle.labels.specs.Below.{passed_violations, sooner};
+ghost use Rattle.labels.specs.Below.{passed_violations, noted};
 
 use crate::values::note_argument;
+use findings::Findings;
 use language::scopes::Scope;
 use language::{
-    ArrayType, Expr, First, Form, Parameter, Part, Place, Rule, Typed, ValueType, VariableType,
-    Why, WordType,
+    ArrayType, Expr, Form, Parameter, Part, Place, Rule, Typed, ValueType, VariableType, Why,
+    WordType,
 };
 
 /// What a parameter is.
@@ -67,7 +68,7 @@ fn argument_declared(names: &Scope<'_>, argument: &Expr) -> Place
 /// Notes what an argument violates beside its parameter, and says whether it violates nothing.
 fn note_passed(
     names: &Scope<'_>,
-    first: &mut First,
+    findings: &mut Findings,
     place: Place,
     parameter: &Parameter,
     given: Typed,
@@ -75,22 +76,22 @@ fn note_passed(
 ) -> bool
     ensures met { result ≡ are_met (argument_violations names.now place
         (record { parameter = parameter_tree parameter.now; given = given; argument = expr_tree argument.now })) }
-    ensures first { first.new.seen
-        ≡ fold sooner first.old.seen (argument_violations names.now place
+    ensures findings { findings.new
+        ≡ fold noted findings.old (argument_violations names.now place
         (record { parameter = parameter_tree parameter.now; given = given; argument = expr_tree argument.now })) }
 {
     let part = Part::Parameter(parameter.place);
-    let fits = note_argument(first, place, part, parameter_value(parameter), given);
+    let fits = note_argument(findings, place, part, parameter_value(parameter), given);
     let fixed = is_fixed(names, parameter, argument);
     let why = Why::Fixed(argument_declared(names, argument));
-    first.note(fixed, place, Rule::NotMutable, why);
+    findings.note(fixed, place, Rule::NotMutable, why);
     fits && !fixed
 }
 
 /// Notes what well-typed arguments violate beside the parameters, and says whether they violate nothing.
 pub fn note_all_passed(
     names: &Scope<'_>,
-    first: &mut First,
+    findings: &mut Findings,
     place: Place,
     parameters: &[Parameter],
     types: &[Typed],
@@ -100,14 +101,14 @@ pub fn note_all_passed(
     requires arguments { length arguments.now ≡ length parameters.now }
     ensures met { result ≡ are_met (passed_violations names.now place
         (passed (map parameter_tree parameters.now) types.now (map expr_tree arguments.now))) }
-    ensures first { first.new.seen
-        ≡ fold sooner first.old.seen (passed_violations names.now place
+    ensures findings { findings.new
+        ≡ fold noted findings.old (passed_violations names.now place
         (passed (map parameter_tree parameters.now) types.now (map expr_tree arguments.now))) }
 {
     let mut met = true;
     for (index, parameter) in parameters.iter().enumerate() {
         let (given, argument) = (types[index], &arguments[index]);
-        met &= note_passed(names, first, place, parameter, given, argument);
+        met &= note_passed(names, findings, place, parameter, given, argument);
     }
     met
 }

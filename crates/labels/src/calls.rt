@@ -4,16 +4,17 @@ ghost use Rattle.std.specs.Option.{option_map};
 ghost use Rattle.labels.specs.Below.{are_met, ArgumentCount, ArgumentCounts as Counts, arguments_violations, because};
 ghost use Rattle.labels.specs.Below.{call_tree, call_type, call_violations, CallAssignsPublicUnderSecretControl};
 ghost use Rattle.labels.specs.Below.{called_one, callee, clash_violations, control_why, expr_tree, found};
-ghost use Rattle.labels.specs.Below.{known_call_type, known_call_violations, procedure_tree, result_value, sooner};
+ghost use Rattle.labels.specs.Below.{known_call_type, known_call_violations, procedure_tree, result_value, noted};
 ghost use Rattle.labels.specs.Below.{when};
 
 use crate::arguments::note_all_passed;
 use crate::clashes::array_clash;
 use crate::expressions::expressions;
 use crate::reasons::control_why;
+use findings::Findings;
 use language::scopes::Scope;
 use language::{
-    ArgumentCounts, Call, Callee, First, Place, Procedure, Rule, SecretControl, SharedArray, Typed,
+    ArgumentCounts, Call, Callee, Place, Procedure, Rule, SecretControl, SharedArray, Typed,
     ValueType, Why, WordType,
 };
 use std::alloc::{AllocError, Global};
@@ -29,18 +30,18 @@ fn result_value(of: Option<WordType>) -> ValueType
 }
 
 /// Notes the array that is given twice, where there is one.
-fn note_clash(first: &mut First, place: Place, clash: Option<SharedArray>)
-    ensures { first.new.seen ≡ fold sooner first.old.seen (clash_violations place clash) }
+fn note_clash(findings: &mut Findings, place: Place, clash: Option<SharedArray>)
+    ensures { findings.new ≡ fold noted findings.old (clash_violations place clash) }
 {
     if let Some(twice) = clash {
-        first.note(true, place, Rule::ArrayPassedTwice, Why::Shared(twice));
+        findings.note(true, place, Rule::ArrayPassedTwice, Why::Shared(twice));
     }
 }
 
 /// Notes that a call has too few arguments, or too many.
-fn note_count(first: &mut First, call: &Call, procedure: &Procedure)
-    ensures { first.new.seen
-        ≡ fold sooner first.old.seen (because (Counts (record {
+fn note_count(findings: &mut Findings, call: &Call, procedure: &Procedure)
+    ensures { findings.new
+        ≡ fold noted findings.old (because (Counts (record {
           given = length call.now.arguments.items;
           taken = length procedure.now.parameters.items;
           procedure = procedure.now.place;
@@ -53,14 +54,14 @@ fn note_count(first: &mut First, call: &Call, procedure: &Procedure)
         procedure: procedure.place,
     };
     let why = Why::ArgumentCounts(counts);
-    first.note(true, call.place, Rule::ArgumentCount, why);
+    findings.note(true, call.place, Rule::ArgumentCount, why);
 }
 
 /// Notes what well-typed arguments violate, and says whether they violate nothing.
 fn note_arguments(
     alloc: Global,
     names: &Scope<'_>,
-    first: &mut First,
+    findings: &mut Findings,
     procedure: &Procedure,
     types: &[Typed],
     call: &Call,
@@ -68,19 +69,19 @@ fn note_arguments(
     requires { length types.now ≡ length call.now.arguments.items }
     ensures met { IfOk result (λ met. met ≡ are_met (arguments_violations names.now call.now.place
         (procedure_tree procedure.now) types.now (map expr_tree call.now.arguments.items))) }
-    ensures first { OnOk result (first.new.seen
-        ≡ fold sooner first.old.seen (arguments_violations names.now call.now.place (procedure_tree procedure.now)
+    ensures findings { OnOk result (findings.new
+        ≡ fold noted findings.old (arguments_violations names.now call.now.place (procedure_tree procedure.now)
         types.now (map expr_tree call.now.arguments.items))) }
 {
     let arguments = call.arguments.as_slice();
     let parameters = procedure.parameters.as_slice();
     if arguments.len() != parameters.len() {
-        note_count(first, call, procedure);
+        note_count(findings, call, procedure);
         return Ok(false);
     }
-    let met = note_all_passed(names, first, call.place, parameters, types, arguments);
+    let met = note_all_passed(names, findings, call.place, parameters, types, arguments);
     let clash = array_clash(alloc, parameters, types, arguments)?;
-    note_clash(first, call.place, clash);
+    note_clash(findings, call.place, clash);
     Ok(met && clash.is_none())
 }
 
@@ -100,20 +101,20 @@ fn called<'p>(earlier: &'p [Procedure], what: Option<Callee>) -> Option<(Callee,
 
 /// Notes a call under secret control that may assign to something public, and says whether it is none.
 fn note_call_control(
-    first: &mut First,
+    findings: &mut Findings,
     place: Place,
     control: Option<SecretControl>,
     callee: Callee,
 ) -> bool
     ensures met { result
         ≡ are_met (when (is_some control && callee.assigns_public) CallAssignsPublicUnderSecretControl) }
-    ensures first { first.new.seen
-        ≡ fold sooner first.old.seen (because (control_why control) place
+    ensures findings { findings.new
+        ≡ fold noted findings.old (because (control_why control) place
         (when (is_some control && callee.assigns_public) CallAssignsPublicUnderSecretControl)) }
 {
     let told = control.is_some() && callee.assigns_public;
     let rule = Rule::CallAssignsPublicUnderSecretControl;
-    first.note(told, place, rule, control_why(control));
+    findings.note(told, place, rule, control_why(control));
     !told
 }
 
@@ -132,7 +133,7 @@ fn given(met: bool, wanted: Option<WordType>) -> Option<ValueType>
 fn known_call(
     alloc: Global,
     names: &Scope<'_>,
-    first: &mut First,
+    findings: &mut Findings,
     earlier: &[Procedure],
     control: Option<SecretControl>,
     call: &Call,
@@ -141,16 +142,16 @@ fn known_call(
     requires { length types.now ≡ length call.now.arguments.items }
     ensures typed { IfOk result (λ type. type ≡ known_call_type names.now control (call_tree call.now)
         (called_one (map procedure_tree earlier.now) (callee (found names.now call.now.name))) types.now) }
-    ensures first { OnOk result (first.new.seen ≡ fold sooner first.old.seen
+    ensures findings { OnOk result (findings.new ≡ fold noted findings.old
         (known_call_violations names.now control (call_tree call.now)
         (called_one (map procedure_tree earlier.now) (callee (found names.now call.now.name))) types.now)) }
 {
     let Some((callee, procedure)) = called(earlier, names.callee(call.name.as_str())) else {
-        first.note_if(true, call.place, Rule::ProcedureNotDeclaredEarlier);
+        findings.note_if(true, call.place, Rule::ProcedureNotDeclaredEarlier);
         return Ok(None);
     };
-    let met = note_arguments(alloc, names, first, procedure, types, call)?;
-    let allowed = note_call_control(first, call.place, control, callee);
+    let met = note_arguments(alloc, names, findings, procedure, types, call)?;
+    let allowed = note_call_control(findings, call.place, control, callee);
     Ok(given(met && allowed, procedure.result))
 }
 
@@ -158,21 +159,21 @@ fn known_call(
 pub fn call(
     alloc: Global,
     names: &Scope<'_>,
-    first: &mut First,
+    findings: &mut Findings,
     earlier: &[Procedure],
     control: Option<SecretControl>,
     call: &Call,
 ) -> Result<Option<ValueType>, AllocError>
     ensures typed { IfOk result (λ type.
         type ≡ call_type (map procedure_tree earlier.now) names.now control (call_tree call.now)) }
-    ensures first { OnOk result (first.new.seen ≡ fold sooner first.old.seen
+    ensures findings { OnOk result (findings.new ≡ fold noted findings.old
         (call_violations (map procedure_tree earlier.now) names.now control (call_tree call.now))) }
 {
-    match expressions(alloc, names, first, call.arguments.as_slice())? {
+    match expressions(alloc, names, findings, call.arguments.as_slice())? {
         Some(types) => known_call(
             alloc,
             names,
-            first,
+            findings,
             earlier,
             control,
             call,

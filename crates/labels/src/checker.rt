@@ -1,15 +1,17 @@
-ghost use Rattle.std.specs.Prelude.{◌≡◌, ◌<◌, None, Some, [], fold, length, map, IsOk, IfOk, IfErr, OnOk};
+ghost use Rattle.std.specs.Prelude.{◌≡◌, ◌<◌, Some, [], fold, length, map, IsOk, IfOk, IfErr, OnOk};
 ghost use Rattle.std.specs.List.{AllByRecursion};
 ghost use Rattle.word.specs.Places.{origin};
 ghost use Rattle.word.specs.declared.profile.Profile.TheVariants.{P1};
 ghost use Rattle.labels.specs.Below.{empty, export_violations, exported, exports, IsGrammatical, NotExactlyOneExport};
-ghost use Rattle.labels.specs.Below.{procedure_tree, procedures_violations, program_tree, sooner, violations};
+ghost use Rattle.labels.specs.Below.{AreInOrder, noted, procedure_tree, procedures_violations, program_tree};
+ghost use Rattle.labels.specs.Below.{violations};
 ghost use Rattle.language.specs.FirstViolation.{IsRefusedFor, IsToldOf};
 ghost use Rattle.labels.specs.Exports.{export_index};
 
 use crate::procedures::procedure;
+use findings::Findings;
 use language::scopes::Scope;
-use language::{First, Place, Procedure, Profile, Program, Refusal, Rule, Violation};
+use language::{Place, Procedure, Profile, Program, Refusal, Rule, Violation};
 use std::alloc::{AllocError, Global};
 
 /// A program that violates no rule on names, types and labels, where this is the observer; so one of
@@ -54,19 +56,19 @@ impl<'p> Checked<'p> {
 }
 
 /// Notes that no procedure is exported, or which further ones are; and counts those before the first.
-fn note_exports(procedures: &[Procedure], first: &mut First) -> Option<usize>
-    ensures first { first.new.seen
-        ≡ fold sooner first.old.seen (export_violations (exports (map procedure_tree procedures.now))) }
+fn note_exports(procedures: &[Procedure], findings: &mut Findings) -> Option<usize>
+    ensures findings { findings.new
+        ≡ fold noted findings.old (export_violations (exports (map procedure_tree procedures.now))) }
     ensures export { result ≡ export_index (exported [] (map procedure_tree procedures.now)) }
 {
     let mut export = None;
     for (index, procedure) in procedures.iter().enumerate() {
         if let Some(place) = procedure.export {
-            first.note_if(export.is_some(), place, Rule::NotExactlyOneExport);
+            findings.note_if(export.is_some(), place, Rule::NotExactlyOneExport);
             export = export.or(Some(index));
         }
     }
-    first.note_if(export.is_none(), Place::ORIGIN, Rule::NotExactlyOneExport);
+    findings.note_if(export.is_none(), Place::ORIGIN, Rule::NotExactlyOneExport);
     export
 }
 
@@ -74,15 +76,15 @@ fn note_exports(procedures: &[Procedure], first: &mut First) -> Option<usize>
 fn note_each<'a>(
     alloc: Global,
     names: &mut Scope<'a>,
-    first: &mut First,
+    findings: &mut Findings,
     procedures: &'a [Procedure],
 ) -> Result<(), AllocError>
-    ensures first { OnOk result (first.new.seen ≡ fold sooner first.old.seen
+    ensures findings { OnOk result (findings.new ≡ fold noted findings.old
         (procedures_violations [] names.old (map procedure_tree procedures.now))) }
     ensures memory { procedures.now ≡ [] → IsOk result }
 {
     for (index, it) in procedures.iter().enumerate() {
-        procedure(alloc, names, first, &procedures[..index], it)?;
+        procedure(alloc, names, findings, &procedures[..index], it)?;
     }
     Ok(())
 }
@@ -91,40 +93,41 @@ fn note_each<'a>(
 fn note_procedures(
     alloc: Global,
     procedures: &[Procedure],
-    first: &mut First,
+    findings: &mut Findings,
     profile: Profile,
 ) -> Result<(), AllocError>
-    ensures first { OnOk result (first.new.seen
-        ≡ fold sooner first.old.seen (procedures_violations [] (empty profile) (map procedure_tree procedures.now))) }
+    ensures findings { OnOk result (findings.new
+        ≡ fold noted findings.old (procedures_violations [] (empty profile) (map procedure_tree procedures.now))) }
     ensures memory { procedures.now ≡ [] → IsOk result }
 {
     let mut names = Scope::new(alloc, profile);
-    note_each(alloc, &mut names, first, procedures)
+    note_each(alloc, &mut names, findings, procedures)
 }
 
-/// What is found of procedures: how many stand before the first exported one, and their first violation.
-#[derive(Clone, Copy)]
-struct Findings {
+/// What is found of procedures: how many stand before the first exported one, and what they violate.
+#[derive(Drop)]
+struct Found {
     export: Option<usize>,
-    violation: Option<Violation>,
+    findings: Findings,
 }
 
-/// What is found of these procedures, where this is the observer.
-fn judged(alloc: Global, procedures: &[Procedure], profile: Profile) -> Result<Findings, AllocError>
-    ensures export { IfOk result (λ found.
-        found.export ≡ export_index (exported [] (map procedure_tree procedures.now))) }
-    ensures violation { IfOk result
-        (λ found. found.violation ≡ fold sooner None
-        (violations profile (record { procedures = map procedure_tree procedures.now }))) }
+/// What is found of these procedures, where this is the observer, behind what was found before.
+fn judged(
+    alloc: Global,
+    procedures: &[Procedure],
+    profile: Profile,
+    before: Findings,
+) -> Result<Found, AllocError>
+    ensures export { IfOk result (λ judged.
+        judged.export ≡ export_index (exported [] (map procedure_tree procedures.now))) }
+    ensures findings { IfOk result (λ judged. judged.findings
+        ≡ fold noted before (violations profile (record { procedures = map procedure_tree procedures.now }))) }
     ensures memory { procedures.now ≡ [] → IsOk result }
 {
-    let mut first = First { seen: None };
-    let export = note_exports(procedures, &mut first);
-    note_procedures(alloc, procedures, &mut first, profile)?;
-    Ok(Findings {
-        export,
-        violation: first.seen,
-    })
+    let mut findings = before;
+    let export = note_exports(procedures, &mut findings);
+    note_procedures(alloc, procedures, &mut findings, profile)?;
+    Ok(Found { export, findings })
 }
 
 /// The program, where it is well typed for an observer; else its first violation. Memory is asked for
@@ -143,11 +146,11 @@ pub fn check_as<'p>(
         IsRefusedFor (violations profile (program_tree program.now)) refusal.rule refusal.place) }
     ensures told { IfErr result (IsToldOf (violations profile (program_tree program.now))) }
 {
-    let found = judged(alloc, program.procedures(), profile)?;
-    if let Some(violation) = found.violation {
+    let judged = judged(alloc, program.procedures(), profile, Findings::new(alloc))?;
+    if let Some(violation) = judged.findings.first() {
         return Err(Refusal::of(violation));
     }
-    match found.export {
+    match judged.export {
         Some(export) => Ok(Checked {
             program,
             profile,
@@ -169,4 +172,20 @@ pub fn check<'p>(alloc: Global, program: &'p Program) -> Result<Checked<'p>, Ref
     ensures told { IfErr result (IsToldOf (violations P1 (program_tree program.now))) }
 {
     check_as(alloc, program, Profile::P1)
+}
+
+/// All that a program violates of these rules, in its order: first what `check_as` refuses it for.
+pub fn violations(
+    alloc: Global,
+    program: &Program,
+    profile: Profile,
+) -> Result<Vec<Violation>, AllocError>
+    ensures { IfOk result (λ found. AreInOrder (violations profile (program_tree program.now)) found.items) }
+{
+    let procedures = program.procedures();
+    let counted = judged(alloc, procedures, profile, Findings::new(alloc))?;
+    let room = counted.findings.again(alloc)?;
+    judged(alloc, procedures, profile, room)?
+        .findings
+        .in_order()
 }

@@ -15,4 +15,4 @@ mod reasons;
 mod statements;
 mod values;
 
-pub use checker::{Checked, check, check_as};
+pub use checker::{Checked, check, check_as, violations};

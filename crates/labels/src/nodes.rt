@@ -4,28 +4,29 @@ ghost use Rattle.labels.specs.Below.{asked_of_one, asked_of_three, asked_of_two,
 ghost use Rattle.labels.specs.Below.{choice_why, convert_rules, convert_type, element_rules, element_type};
 ghost use Rattle.labels.specs.Below.{element_why, Number, number_rules, of_one, of_three, of_two, operand_why};
 ghost use Rattle.labels.specs.Below.{operands_why, prefix_rules, prefix_type, Public, rotate_rules, rotate_type};
-ghost use Rattle.labels.specs.Below.{rotate_why, select_rules, select_type, sooner, typed_as, unless, word};
+ghost use Rattle.labels.specs.Below.{rotate_why, select_rules, select_type, noted, typed_as, unless, word};
 ghost use Rattle.labels.specs.Below.{WrongKind};
 ghost use Rattle.language.specs.Operators.{operation_of};
 ghost use Rattle.labels.specs.private.Made.{of_choice, of_operand, of_operands};
 
 use crate::reasons::{either_literal, operand_literal, typed_part, whole_literal};
+use findings::Findings;
 use language::{
-    BinaryOperator, ComparedTypes, First, Kind, Label, Literal, Part, Place, PrefixOperator,
-    Profile, Rule, Typed, ValueType, Why,
+    BinaryOperator, ComparedTypes, Kind, Label, Literal, Part, Place, PrefixOperator, Profile,
+    Rule, Typed, ValueType, Why,
 };
 
 /// Notes what a number violates, and gives what is known of it where it is well typed, as each function below.
-pub fn number(first: &mut First, place: Place, value: u32, kind: Kind) -> Option<Typed>
+pub fn number(findings: &mut Findings, place: Place, value: u32, kind: Kind) -> Option<Typed>
     ensures typed { result
         ≡ option_map (typed_as None (Some value)) (unless (number_rules value kind) (word kind Public)) }
-    ensures first { first.new.seen
-        ≡ fold sooner first.old.seen
+    ensures findings { findings.new
+        ≡ fold noted findings.old
         (because (Number (record { value = value; kind = kind })) place (number_rules value kind)) }
 {
     let within = kind.includes(value);
     let why = Why::Number(Literal { value, kind });
-    first.note(!within, place, Rule::LiteralOutOfRange, why);
+    findings.note(!within, place, Rule::LiteralOutOfRange, why);
     within.then_some(Typed {
         value: ValueType::word(kind, Label::Public),
         secret: None,
@@ -54,14 +55,14 @@ fn operand_why(operand: Typed) -> Why
 
 /// A sign before an operand.
 pub fn prefix(
-    first: &mut First,
+    findings: &mut Findings,
     place: Place,
     operator: PrefixOperator,
     operand: Option<Typed>,
 ) -> Option<Typed>
     ensures typed { result ≡ of_one None (of_operand (prefix_type operator)) operand }
-    ensures first { first.new.seen
-        ≡ fold sooner first.old.seen (asked_of_one operand_why place (prefix_rules operator) operand) }
+    ensures findings { findings.new
+        ≡ fold noted findings.old (asked_of_one operand_why place (prefix_rules operator) operand) }
 {
     let operand = operand?;
     let fits = match operator {
@@ -69,13 +70,13 @@ pub fn prefix(
         PrefixOperator::Complement => operand.value.is_numeric(),
         PrefixOperator::Negate => operand.value.is_numeric(),
     };
-    first.note(!fits, place, Rule::WrongKind, operand_why(operand));
+    findings.note(!fits, place, Rule::WrongKind, operand_why(operand));
     fits.then_some(made(operand.value, operand.secret))
 }
 
 /// An operator between two operands, for an observer.
 pub fn binary(
-    first: &mut First,
+    findings: &mut Findings,
     profile: Profile,
     place: Place,
     operator: BinaryOperator,
@@ -83,7 +84,7 @@ pub fn binary(
     right: Option<Typed>,
 ) -> Option<Typed>
     ensures typed { result ≡ of_two None (of_operands (binary_type profile operator)) left right }
-    ensures first { first.new.seen ≡ fold sooner first.old.seen
+    ensures findings { findings.new ≡ fold noted findings.old
         (asked_of_two (operands_why (operation_of operator)) place (binary_rules profile operator) left right) }
 {
     let (Some(left), Some(right)) = (left, right) else {
@@ -101,20 +102,20 @@ pub fn binary(
     let wrong = !operation.takes(one, other);
     let told = operation.divides_secret(one, other);
     let shown = operation.multiplies_secret(profile, one, other);
-    first.note(
+    findings.note(
         uneven,
         place,
         Rule::WidthsDiffer,
         Why::Types(types, literal),
     );
-    first.note(wrong, place, Rule::WrongKind, Why::Types(types, None));
-    first.note(
+    findings.note(wrong, place, Rule::WrongKind, Why::Types(types, None));
+    findings.note(
         told,
         place,
         Rule::SecretDivisionOperand,
         Why::Secret(secret),
     );
-    first.note(
+    findings.note(
         shown,
         place,
         Rule::SecretMultiplicationOperand,
@@ -129,10 +130,15 @@ pub fn binary(
 }
 
 /// A rotation by so many bits.
-pub fn rotate(first: &mut First, place: Place, amount: u32, operand: Option<Typed>) -> Option<Typed>
+pub fn rotate(
+    findings: &mut Findings,
+    place: Place,
+    amount: u32,
+    operand: Option<Typed>,
+) -> Option<Typed>
     ensures typed { result ≡ of_one None (of_operand (rotate_type amount)) operand }
-    ensures first { first.new.seen
-        ≡ fold sooner first.old.seen (asked_of_one (rotate_why amount) place (rotate_rules amount) operand) }
+    ensures findings { findings.new
+        ≡ fold noted findings.old (asked_of_one (rotate_why amount) place (rotate_rules amount) operand) }
 {
     let operand = operand?;
     let kind = operand.value.kind();
@@ -143,8 +149,8 @@ pub fn rotate(first: &mut First, place: Place, amount: u32, operand: Option<Type
         value: amount,
         kind,
     });
-    first.note(wrong, place, Rule::WrongKind, operand_why(operand));
-    first.note(outside, place, Rule::LiteralOutOfRange, why);
+    findings.note(wrong, place, Rule::WrongKind, operand_why(operand));
+    findings.note(outside, place, Rule::LiteralOutOfRange, why);
     if wrong || outside {
         return None;
     }
@@ -152,28 +158,33 @@ pub fn rotate(first: &mut First, place: Place, amount: u32, operand: Option<Type
 }
 
 /// A conversion.
-pub fn convert(first: &mut First, place: Place, kind: Kind, operand: Option<Typed>) -> Option<Typed>
+pub fn convert(
+    findings: &mut Findings,
+    place: Place,
+    kind: Kind,
+    operand: Option<Typed>,
+) -> Option<Typed>
     ensures typed { result ≡ of_one None (of_operand (convert_type kind)) operand }
-    ensures first { first.new.seen ≡ fold sooner first.old.seen (asked_of_one operand_why place convert_rules operand) }
+    ensures findings { findings.new ≡ fold noted findings.old (asked_of_one operand_why place convert_rules operand) }
 {
     let operand = operand?;
     let fits = operand.value.is_numeric() || operand.value.is_bool();
-    first.note(!fits, place, Rule::WrongKind, operand_why(operand));
+    findings.note(!fits, place, Rule::WrongKind, operand_why(operand));
     let value = ValueType::word(kind, operand.value.label());
     fits.then_some(made(value, operand.secret))
 }
 
 /// A choice between two operands.
 pub fn choice(
-    first: &mut First,
+    findings: &mut Findings,
     place: Place,
     condition: Option<Typed>,
     accepted: Option<Typed>,
     otherwise: Option<Typed>,
 ) -> Option<Typed>
     ensures typed { result ≡ of_three None (of_choice select_type) condition accepted otherwise }
-    ensures first { first.new.seen
-        ≡ fold sooner first.old.seen (asked_of_three choice_why place select_rules condition accepted otherwise) }
+    ensures findings { findings.new
+        ≡ fold noted findings.old (asked_of_three choice_why place select_rules condition accepted otherwise) }
 {
     let (Some(condition), Some(accepted), Some(otherwise)) = (condition, accepted, otherwise) else {
         return None;
@@ -183,13 +194,13 @@ pub fn choice(
     let literal = either_literal(accepted, otherwise);
     let uneven = one.differs_in_width(other);
     let wrong = !(chooser.is_bool() && one.is_alike(other));
-    first.note(
+    findings.note(
         uneven,
         place,
         Rule::WidthsDiffer,
         Why::Types(types, literal),
     );
-    first.note(wrong, place, Rule::WrongKind, Why::Types(types, None));
+    findings.note(wrong, place, Rule::WrongKind, Why::Types(types, None));
     if uneven || wrong {
         return None;
     }
@@ -200,14 +211,14 @@ pub fn choice(
 
 /// An element of an array.
 pub fn element(
-    first: &mut First,
+    findings: &mut Findings,
     place: Place,
     array: Option<Typed>,
     index: Option<Typed>,
 ) -> Option<Typed>
     ensures typed { result ≡ of_two None (of_operands element_type) array index }
-    ensures first { first.new.seen
-        ≡ fold sooner first.old.seen (asked_of_two element_why place element_rules array index) }
+    ensures findings { findings.new
+        ≡ fold noted findings.old (asked_of_two element_why place element_rules array index) }
 {
     let (Some(array), Some(index)) = (array, index) else {
         return None;
@@ -219,14 +230,14 @@ pub fn element(
     let uneven = index.value.is_narrow();
     let wrong = !(array.value.is_array() && index.value.is_numeric());
     let told = index.value.is_hidden();
-    first.note(
+    findings.note(
         uneven,
         place,
         Rule::WidthsDiffer,
         Why::Types(types, whole_literal(index)),
     );
-    first.note(wrong, place, Rule::WrongKind, Why::Types(types, None));
-    first.note(told, place, Rule::SecretIndex, Why::Secret(index.secret));
+    findings.note(wrong, place, Rule::WrongKind, Why::Types(types, None));
+    findings.note(told, place, Rule::SecretIndex, Why::Secret(index.secret));
     if uneven || wrong || told {
         return None;
     }

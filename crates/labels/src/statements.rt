@@ -1,7 +1,7 @@
 ghost use Rattle.std.specs.Prelude.{◌≡◌, ◌++◌, fold, is_some, map, OnOk};
 ghost use Rattle.labels.specs.Below.{asked_of_one, asked_of_two, at, block_tree, block_violations, bounds_rules};
 ghost use Rattle.labels.specs.Below.{bounds_why, condition_rules, condition_why, control_under, counter_as, declared};
-ghost use Rattle.labels.specs.Below.{found, NameDeclaredTwice, procedure_tree, scope_after, scope_after_all, sooner};
+ghost use Rattle.labels.specs.Below.{found, NameDeclaredTwice, procedure_tree, scope_after, scope_after_all, noted};
 ghost use Rattle.labels.specs.Below.{statement_tree, statement_violations, when};
 
 use crate::assignments::{assignment, element_assignment};
@@ -9,21 +9,22 @@ use crate::calls::call;
 use crate::declarations::{array, declaration};
 use crate::expressions::expression;
 use crate::reasons::typed_part;
+use findings::Findings;
 use language::scopes::Scope;
 use language::{
-    ComparedTypes, Counter, Declared, First, Kind, Label, Part, Place, Procedure, Rule,
-    SecretControl, Statement, Typed, ValueType, VariableType, Why,
+    ComparedTypes, Counter, Declared, Kind, Label, Part, Place, Procedure, Rule, SecretControl,
+    Statement, Typed, ValueType, VariableType, Why,
 };
 use std::alloc::{AllocError, Global};
 
 /// Notes what a condition violates.
-fn note_condition(first: &mut First, place: Place, condition: Option<Typed>)
-    ensures { first.new.seen ≡ fold sooner first.old.seen (asked_of_one condition_why place condition_rules condition) }
+fn note_condition(findings: &mut Findings, place: Place, condition: Option<Typed>)
+    ensures { findings.new ≡ fold noted findings.old (asked_of_one condition_why place condition_rules condition) }
 {
     if let Some(condition) = condition {
         let part = typed_part(Part::Condition, condition.value);
         let why = Why::Types(ComparedTypes::One(part), None);
-        first.note(!condition.value.is_bool(), place, Rule::WrongKind, why);
+        findings.note(!condition.value.is_bool(), place, Rule::WrongKind, why);
     }
 }
 
@@ -45,8 +46,8 @@ fn control_under(
 }
 
 /// Notes what a loop's bounds violate.
-fn note_bounds(first: &mut First, place: Place, low: Option<Typed>, high: Option<Typed>)
-    ensures { first.new.seen ≡ fold sooner first.old.seen (asked_of_two bounds_why place bounds_rules low high) }
+fn note_bounds(findings: &mut Findings, place: Place, low: Option<Typed>, high: Option<Typed>)
+    ensures { findings.new ≡ fold noted findings.old (asked_of_two bounds_why place bounds_rules low high) }
 {
     let (Some(low), Some(high)) = (low, high) else {
         return;
@@ -61,9 +62,9 @@ fn note_bounds(first: &mut First, place: Place, low: Option<Typed>, high: Option
     let uneven = one.is_narrow() || other.is_narrow();
     let wrong = !(one.is_numeric() && other.is_numeric());
     let told = one.is_hidden() || other.is_hidden();
-    first.note(uneven, place, Rule::WidthsDiffer, why);
-    first.note(wrong, place, Rule::WrongKind, why);
-    first.note(told, place, Rule::SecretBound, secret);
+    findings.note(uneven, place, Rule::WidthsDiffer, why);
+    findings.note(wrong, place, Rule::WrongKind, why);
+    findings.note(told, place, Rule::SecretBound, secret);
 }
 
 /// A statement under control. What it declares is in scope from here on.
@@ -71,42 +72,56 @@ fn note_bounds(first: &mut First, place: Place, low: Option<Typed>, high: Option
 fn statement<'a>(
     alloc: Global,
     names: &mut Scope<'a>,
-    first: &mut First,
+    findings: &mut Findings,
     earlier: &[Procedure],
     control: Option<SecretControl>,
     statement: &'a Statement,
 ) -> Result<(), AllocError>
     ensures names { OnOk result (names.new ≡ scope_after names.old (statement_tree statement.now)) }
-    ensures first { OnOk result (first.new.seen
-        ≡ fold sooner first.old.seen
+    ensures findings { OnOk result (findings.new
+        ≡ fold noted findings.old
         (statement_violations (map procedure_tree earlier.now) names.old control (statement_tree statement.now))) }
 {
     match statement {
-        Statement::Declare(it) => declaration(alloc, names, first, earlier, control, it),
-        Statement::DeclareArray(it) => array(alloc, names, first, control, it),
-        Statement::Assign(it) => assignment(alloc, names, first, earlier, control, it),
+        Statement::Declare(it) => declaration(alloc, names, findings, earlier, control, it),
+        Statement::DeclareArray(it) => array(alloc, names, findings, control, it),
+        Statement::Assign(it) => assignment(alloc, names, findings, earlier, control, it),
         Statement::AssignElement(it) => {
-            element_assignment(alloc, names, first, earlier, control, it)
+            element_assignment(alloc, names, findings, earlier, control, it)
         }
         Statement::Call(it) => {
-            call(alloc, names, first, earlier, control, it)?;
+            call(alloc, names, findings, earlier, control, it)?;
             Ok(())
         }
         Statement::If(place, condition, accepted, otherwise) => {
-            let condition = expression(names, first, condition);
-            note_condition(first, *place, condition);
+            let condition = expression(names, findings, condition);
+            note_condition(findings, *place, condition);
             let control = control_under(*place, control, condition);
-            arm(alloc, names, first, earlier, control, accepted.as_slice())?;
-            arm(alloc, names, first, earlier, control, otherwise.as_slice())
+            arm(
+                alloc,
+                names,
+                findings,
+                earlier,
+                control,
+                accepted.as_slice(),
+            )?;
+            arm(
+                alloc,
+                names,
+                findings,
+                earlier,
+                control,
+                otherwise.as_slice(),
+            )
         }
         Statement::For(place, counter, low, high, body) => {
-            let low = expression(names, first, low);
-            let high = expression(names, first, high);
-            note_bounds(first, *place, low, high);
+            let low = expression(names, findings, low);
+            let high = expression(names, findings, high);
+            note_bounds(findings, *place, low, high);
             iterations(
                 alloc,
                 names,
-                first,
+                findings,
                 earlier,
                 control,
                 counter,
@@ -121,18 +136,18 @@ fn statement<'a>(
 fn arm<'a>(
     alloc: Global,
     names: &mut Scope<'a>,
-    first: &mut First,
+    findings: &mut Findings,
     earlier: &[Procedure],
     control: Option<SecretControl>,
     arm: &'a [Statement],
 ) -> Result<(), AllocError>
     ensures names { OnOk result (names.new ≡ names.old) }
-    ensures first { OnOk result (first.new.seen
-        ≡ fold sooner first.old.seen
+    ensures findings { OnOk result (findings.new
+        ≡ fold noted findings.old
         (block_violations (map procedure_tree earlier.now) names.old control (block_tree arm.now))) }
 {
     let outside = names.len();
-    statements(alloc, names, first, earlier, control, arm)?;
+    statements(alloc, names, findings, earlier, control, arm)?;
     names.truncate(outside);
     Ok(())
 }
@@ -142,15 +157,15 @@ fn arm<'a>(
 fn iterations<'a>(
     alloc: Global,
     names: &mut Scope<'a>,
-    first: &mut First,
+    findings: &mut Findings,
     earlier: &[Procedure],
     control: Option<SecretControl>,
     counter: &'a Counter,
     body: &'a [Statement],
 ) -> Result<(), AllocError>
     ensures names { OnOk result (names.new ≡ names.old) }
-    ensures first { OnOk result (first.new.seen
-        ≡ fold sooner first.old.seen (at counter.now.place
+    ensures findings { OnOk result (findings.new
+        ≡ fold noted findings.old (at counter.now.place
         (when (is_some (found names.old counter.now.name)) NameDeclaredTwice)
         ++ block_violations (map procedure_tree earlier.now)
         (declared names.old counter.now.place counter.now.name counter_as) control (block_tree body.now))) }
@@ -165,8 +180,8 @@ fn iterations<'a>(
         counter.name.as_str(),
         Declared::Variable(variable),
     )?;
-    first.note_if(taken, counter.place, Rule::NameDeclaredTwice);
-    statements(alloc, names, first, earlier, control, body)?;
+    findings.note_if(taken, counter.place, Rule::NameDeclaredTwice);
+    statements(alloc, names, findings, earlier, control, body)?;
     names.truncate(before);
     Ok(())
 }
@@ -176,18 +191,18 @@ fn iterations<'a>(
 pub fn statements<'a>(
     alloc: Global,
     names: &mut Scope<'a>,
-    first: &mut First,
+    findings: &mut Findings,
     earlier: &[Procedure],
     control: Option<SecretControl>,
     statements: &'a [Statement],
 ) -> Result<(), AllocError>
     ensures names { OnOk result (names.new ≡ scope_after_all names.old (block_tree statements.now)) }
-    ensures first { OnOk result (first.new.seen
-        ≡ fold sooner first.old.seen
+    ensures findings { OnOk result (findings.new
+        ≡ fold noted findings.old
         (block_violations (map procedure_tree earlier.now) names.old control (block_tree statements.now))) }
 {
     for one in statements {
-        statement(alloc, names, first, earlier, control, one)?;
+        statement(alloc, names, findings, earlier, control, one)?;
     }
     Ok(())
 }

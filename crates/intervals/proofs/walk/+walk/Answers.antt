@@ -1,6 +1,6 @@
 use Rattle.std.proofs.lemmas.List.Sums.{fold-append}
 use Rattle.std.proofs.Common.{◌+◌, rules, drop, fold, ap₂, refl, ◌∙◌, ap, sym}
-use Rattle.intervals.specs.Below.{first, flat_block, flat_tree, sooner, term_tree}
+use Rattle.intervals.specs.Below.{first, flat_block, flat_tree, noted, term_tree}
 use Rattle.intervals.specs.Intervals.{interval}
 use Rattle.intervals.specs.Ranges.{bounds_after, bounds_after_all, counted_all}
 use Rattle.intervals.specs.Ranges.{violations, violations_all, term_violations}
@@ -37,22 +37,22 @@ statement-returns-in_ok-accepted_arm-in-Branch-clause-iterations t c =
     c.args.walk.now.iterations.items c.accepted_arm.new.walk.iterations.items c.otherwise_arm.new.walk.iterations.items
     c.in_ok-accepted_arm-in-Branch.ensures.iterations last) c.otherwise_arm.ensures.iterations
 
-pub statement-returns-in_ok-accepted_arm-in-Branch-clause-first :
-    goal.statement-returns-in_ok-accepted_arm-in-Branch-clause-first
-statement-returns-in_ok-accepted_arm-in-Branch-clause-first t c =
+pub statement-returns-in_ok-accepted_arm-in-Branch-clause-findings :
+    goal.statement-returns-in_ok-accepted_arm-in-Branch-clause-findings
+statement-returns-in_ok-accepted_arm-in-Branch-clause-findings t c =
     on_ok c.otherwise_arm.result (λ last. branch_seen c.args.declared.now c.args.walk.now.known.bounds.items
     c.args.statement.now c.in-Branch.label c.in-Branch.condition c.in-Branch.accepted c.in-Branch.otherwise
     c.in-Branch.is
     c.as_slice-in-Branch.result.now c.as_slice-in-Branch-2.result.now c.as_slice-in-Branch.ensures.value
     c.as_slice-in-Branch-2.ensures.value c.accepted_arm.new.walk.known.bounds.items
     c.in_ok-accepted_arm-in-Branch.ensures.bounds
-    c.args.walk.now.first.seen c.note_term-in-Branch.new.first.seen c.accepted_arm.new.walk.first.seen
-    c.otherwise_arm.new.walk.first.seen
-    (c.note_term-in-Branch.ensures.first
-    ∙ ap (λ bounds. fold sooner c.args.walk.now.first.seen
+    c.args.walk.now.findings c.note_term-in-Branch.new.findings c.accepted_arm.new.walk.findings
+    c.otherwise_arm.new.walk.findings
+    (c.note_term-in-Branch.ensures.findings
+    ∙ ap (λ bounds. fold noted c.args.walk.now.findings
     (term_violations c.args.declared.now bounds (term_tree c.in-Branch.condition)))
-    c.as_slice-bounds.ensures.value) c.in_ok-accepted_arm-in-Branch.ensures.first last)
-    c.otherwise_arm.ensures.first
+    c.as_slice-bounds.ensures.value) c.in_ok-accepted_arm-in-Branch.ensures.findings last)
+    c.otherwise_arm.ensures.findings
 
 pub statement-returns-in-Loop-clause-iterations : goal.statement-returns-in-Loop-clause-iterations
 statement-returns-in-Loop-clause-iterations t c =
@@ -71,8 +71,8 @@ statement-returns-in-Loop-clause-iterations t c =
     c.most_iterations.result
     c.most_iterations.ensures c.count.ensures last) c.iterations.ensures.iterations
 
-pub statement-returns-in-Loop-clause-first : goal.statement-returns-in-Loop-clause-first
-statement-returns-in-Loop-clause-first t c =
+pub statement-returns-in-Loop-clause-findings : goal.statement-returns-in-Loop-clause-findings
+statement-returns-in-Loop-clause-findings t c =
     on_ok c.iterations.result (λ last. loop_seen c.args.declared.now c.args.walk.now.known.bounds.items
     c.args.statement.now c.in-Loop.counter c.in-Loop.low c.in-Loop.high c.in-Loop.body c.in-Loop.is
     c.as_slice-in-Loop.result.now c.as_slice-in-Loop.ensures.value c.note_term-low.result c.note_term-high.result
@@ -84,15 +84,15 @@ statement-returns-in-Loop-clause-first t c =
     ∙ ap (λ bounds. interval c.args.declared.now bounds (term_tree c.in-Loop.high))
     c.as_slice-bounds.ensures.value)
     c.counter_interval-numbers.ensures
-    c.args.walk.now.first.seen c.note_term-low.new.first.seen c.note_term-high.new.first.seen
-    c.iterations.new.walk.first.seen
-    (c.note_term-low.ensures.first
-    ∙ ap (λ bounds. fold sooner c.args.walk.now.first.seen
+    c.args.walk.now.findings c.note_term-low.new.findings c.note_term-high.new.findings
+    c.iterations.new.walk.findings
+    (c.note_term-low.ensures.findings
+    ∙ ap (λ bounds. fold noted c.args.walk.now.findings
     (term_violations c.args.declared.now bounds (term_tree c.in-Loop.low))) c.as_slice-bounds.ensures.value)
-    (c.note_term-high.ensures.first
-    ∙ ap (λ bounds. fold sooner c.note_term-low.new.first.seen
+    (c.note_term-high.ensures.findings
+    ∙ ap (λ bounds. fold noted c.note_term-low.new.findings
     (term_violations c.args.declared.now bounds (term_tree c.in-Loop.high))) c.as_slice-bounds.ensures.value)
-    last) c.iterations.ensures.first
+    last) c.iterations.ensures.findings
 
 pub statements-loop-one-preserved : goal.statements-loop-one-preserved
 statements-loop-one-preserved t c =
@@ -111,10 +111,10 @@ statements-loop-one-preserved t c =
       iterations = ap₂ (λ b t. counted_all declared b t rest) done.bounds done.iterations
           ∙ (sym (ap (counted_all declared bounds c.loop-one.walk.iterations.items) next)
           ∙ c.loop-one.invariant.iterations);
-      first = ap₂ (λ b f. fold sooner f (violations_all declared b rest)) done.bounds done.first
-          ∙ (sym (fold-append sooner c.loop-one.walk.first.seen (violations declared bounds one)
+      findings = ap₂ (λ b f. fold noted f (violations_all declared b rest)) done.bounds done.findings
+          ∙ (sym (fold-append noted c.loop-one.walk.findings (violations declared bounds one)
           (violations_all declared (bounds_after declared bounds one) rest))
-          ∙ (sym (ap (λ b. fold sooner c.loop-one.walk.first.seen (violations_all declared bounds b)) next)
-          ∙ c.loop-one.invariant.first));
+          ∙ (sym (ap (λ b. fold noted c.loop-one.walk.findings (violations_all declared bounds b)) next)
+          ∙ c.loop-one.invariant.findings));
       declared = refl;
     }

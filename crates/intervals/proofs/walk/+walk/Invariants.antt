@@ -1,5 +1,5 @@
 use Rattle.std.proofs.Common.{◌≡◌, drop, fold}
-use Rattle.intervals.specs.Below.{flat_block, sooner}
+use Rattle.intervals.specs.Below.{flat_block, noted}
 use Rattle.intervals.specs.Ranges.{bounds_after_all, counted_all}
 use Rattle.intervals.specs.Undoing.{CameFrom}
 use Rattle.intervals.specs.Ranges.{violations_all}
@@ -16,7 +16,7 @@ invariant-statements-loop-one l =
       from : CameFrom l.fn.walk.known l.walk.known;
       iterations : counted_all l.declared l.walk.known.bounds.items l.walk.iterations.items rest
           ≡ counted_all l.fn.declared l.fn.walk.known.bounds.items l.fn.walk.iterations.items all;
-      first : fold sooner l.walk.first.seen (violations_all l.declared l.walk.known.bounds.items rest)
-          ≡ fold sooner l.fn.walk.first.seen (violations_all l.fn.declared l.fn.walk.known.bounds.items all);
+      findings : fold noted l.walk.findings (violations_all l.declared l.walk.known.bounds.items rest)
+          ≡ fold noted l.fn.walk.findings (violations_all l.fn.declared l.fn.walk.known.bounds.items all);
       declared : l.declared ≡ l.fn.declared;
     }

@@ -7,8 +7,8 @@ loop-index-preserved c = record {
       c.args.arguments.now c.index-arguments-index.result c.loop-index-test.true c.requires.types c.requires.arguments
       c.index-parameters-index.is c.index-arguments-index.is c.loop-index.met c.note_passed-met.result _ c.loop-index.invariant.met
       c.note_passed-met.ensures.met;
-  first = from-noted c.index-parameters-index.result _ c.loop-index.index c.args.names.now c.args.place c.args.parameters.now c.args.types.now
+  findings = from-noted c.index-parameters-index.result _ c.loop-index.index c.args.names.now c.args.place c.args.parameters.now c.args.types.now
       c.args.arguments.now c.index-arguments-index.result c.loop-index-test.true c.requires.types c.requires.arguments
-      c.index-parameters-index.is c.index-arguments-index.is c.loop-index.first.seen c.note_passed-met.new.first.seen _
-      c.loop-index.invariant.first c.note_passed-met.ensures.first;
+      c.index-parameters-index.is c.index-arguments-index.is c.loop-index.findings c.note_passed-met.new.findings _
+      c.loop-index.invariant.findings c.note_passed-met.ensures.findings;
 }

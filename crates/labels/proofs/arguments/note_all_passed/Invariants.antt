@@ -1,5 +1,5 @@
 use Rattle.std.proofs.Common.{◌≡◌, ◌&&◌, map, fold}
-use Rattle.labels.specs.Below.{are_met, expr_tree, parameter_tree, passed, passed_violations, sooner}
+use Rattle.labels.specs.Below.{are_met, expr_tree, parameter_tree, passed, passed_violations, noted}
 use Rattle.labels.proofs.RuleLemmas.{violated_from}
 use Rattle.labels.proofs.arguments.note_all_passed.Given as goal
 
@@ -11,5 +11,5 @@ invariant-loop-index l =
     (passed (map parameter_tree l.parameters) l.types (map expr_tree l.arguments)) in
     record {
       met : (l.met && are_met rest) ≡ are_met all;
-      first : fold sooner l.first.seen rest ≡ fold sooner l.fn.first.seen all;
+      findings : fold noted l.findings rest ≡ fold noted l.fn.findings all;
     }

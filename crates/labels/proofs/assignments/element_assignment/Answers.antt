@@ -12,8 +12,8 @@ returns c =
     let it = c.args.assignment.now in
     let text = it.name in
     let index = expr_tree it.index in
-    element_assignment_seen c.args.first.now.seen c.name-array.new.first.seen c.expression-index.new.first.seen
-    c.element.new.first.seen c.right_side.new.first.seen c.note_element_assignment.new.first.seen
+    element_assignment_seen c.args.findings.now c.name-array.new.findings c.expression-index.new.findings
+    c.element.new.findings c.right_side.new.findings c.note_element_assignment.new.findings
     (map procedure_tree c.args.earlier.now) n c.args.control it.place it.bracket it.target text index
     (right_tree it.value) c.name-array.result c.expression-index.result c.in_ok-given.given c.value_of-element.result
     c.place.result c.variable-variable.result
@@ -23,5 +23,5 @@ returns c =
     ∙ ap₂ (of_two None (of_operands element_type)) c.name-array.ensures.typed c.expression-index.ensures.typed)
     ∙ value_of-element (secret_name n text) (secret_in n index) None (literal_in index) (name_type n text)
     (type_of n index))
-    c.in_ok-given.ensures.typed c.name-array.ensures.first c.expression-index.ensures.first c.element.ensures.first
-    c.in_ok-given.ensures.first c.note_element_assignment.ensures
+    c.in_ok-given.ensures.typed c.name-array.ensures.findings c.expression-index.ensures.findings c.element.ensures.findings
+    c.in_ok-given.ensures.findings c.note_element_assignment.ensures

@@ -1,7 +1,7 @@
 use Rattle.std.proofs.Common.{◌∙◌, None, ap, ap₂, fold, sym}
 use Rattle.labels.specs.Below.{binary_type, convert_type, element_type, expr_tree, expr_violations, literal_in}
 use Rattle.labels.specs.Below.{name_type, of_one, of_three, of_two, prefix_type, rotate_type, secret_in, secret_name}
-use Rattle.labels.specs.Below.{select_type, sooner, type_of, typed_of}
+use Rattle.labels.specs.Below.{select_type, noted, type_of, typed_of}
 use Rattle.labels.specs.private.Made.{of_operand, of_operands, of_choice}
 use Rattle.labels.proofs.TypedLemmas.{element_seen, of_one-typed, of_two-typed, of_three-typed}
 use Rattle.labels.proofs.expressions.+expression.Goals as goal
@@ -87,16 +87,16 @@ returns-in-Element-clause-typed t c =
     (type_of n b)
     ∙ ap (λ e. typed_of n (expr_tree e)) (sym c.in-Element.is)
 
-pub returns-in-Element-clause-first : goal.returns-in-Element-clause-first
-returns-in-Element-clause-first t c =
+pub returns-in-Element-clause-findings : goal.returns-in-Element-clause-findings
+returns-in-Element-clause-findings t c =
     let n = c.args.names.now in
     let b = expr_tree c.in-Element.index.value in
-    element_seen c.args.first.now.seen c.name-array.new.first.seen c.expression-index.new.first.seen
-    c.element.new.first.seen n c.in-Element.place c.in-Element.target c.in-Element.text b c.name-array.result
+    element_seen c.args.findings.now c.name-array.new.findings c.expression-index.new.findings
+    c.element.new.findings n c.in-Element.place c.in-Element.target c.in-Element.text b c.name-array.result
     c.expression-index.result c.name-array.ensures.typed
     (c.expression-index.ensures.typed ∙ ap (λ e. typed_of n (expr_tree e)) c.deref-in-Element.ensures)
-    c.name-array.ensures.first
-    (c.expression-index.ensures.first
-    ∙ ap (λ e. fold sooner c.name-array.new.first.seen (expr_violations n (expr_tree e))) c.deref-in-Element.ensures)
-    c.element.ensures.first
-    ∙ ap (λ e. fold sooner c.args.first.now.seen (expr_violations n (expr_tree e))) (sym c.in-Element.is)
+    c.name-array.ensures.findings
+    (c.expression-index.ensures.findings
+    ∙ ap (λ e. fold noted c.name-array.new.findings (expr_violations n (expr_tree e))) c.deref-in-Element.ensures)
+    c.element.ensures.findings
+    ∙ ap (λ e. fold noted c.args.findings.now (expr_violations n (expr_tree e))) (sym c.in-Element.is)

@@ -20,29 +20,29 @@ iterations-returns-clause-names t c =
     ∙ scope_before_iterations c.len-before.result c.args.names.now c.args.counter.now.place c.args.counter.now.name
     counter_as (block_tree c.args.body.now) c.len-before.ensures.names c.len-before.ensures.places
 
-pub statement-returns-in_ok-arm-in-If-clause-first :
-    goal.statement-returns-in_ok-arm-in-If-clause-first
-statement-returns-in_ok-arm-in-If-clause-first t c =
+pub statement-returns-in_ok-arm-in-If-clause-findings :
+    goal.statement-returns-in_ok-arm-in-If-clause-findings
+statement-returns-in_ok-arm-in-If-clause-findings t c =
     on_ok_weaker c.arm-in-If.result
-    (λ last. conditional_seen c.args.first.now.seen c.expression-condition.new.first.seen
-    c.note_condition.new.first.seen c.arm.new.first.seen c.arm-in-If.new.first.seen
+    (λ last. conditional_seen c.args.findings.now c.expression-condition.new.findings
+    c.note_condition.new.findings c.arm.new.findings c.arm-in-If.new.findings
     (map procedure_tree c.args.earlier.now) c.args.names.now c.arm.new.names c.args.control
     c.control_under-control.result c.expression-condition.result
     c.args.statement.now c.in-If.place c.in-If.condition c.in-If.accepted c.in-If.otherwise c.as_slice.result.now
     c.as_slice-in-If.result.now c.in-If.is
     c.as_slice.ensures.value c.as_slice-in-If.ensures.value
     c.expression-condition.ensures.typed c.control_under-control.ensures c.in_ok-arm-in-If.ensures.names
-    c.expression-condition.ensures.first c.note_condition.ensures c.in_ok-arm-in-If.ensures.first last)
-    c.arm-in-If.ensures.first
+    c.expression-condition.ensures.findings c.note_condition.ensures c.in_ok-arm-in-If.ensures.findings last)
+    c.arm-in-If.ensures.findings
 
-pub statement-returns-in-For-clause-first : goal.statement-returns-in-For-clause-first
-statement-returns-in-For-clause-first t c =
-    on_ok_weaker c.iterations.result (λ last. loop_seen c.args.first.now.seen c.expression-low.new.first.seen
-    c.expression-high.new.first.seen c.note_bounds.new.first.seen c.iterations.new.first.seen
+pub statement-returns-in-For-clause-findings : goal.statement-returns-in-For-clause-findings
+statement-returns-in-For-clause-findings t c =
+    on_ok_weaker c.iterations.result (λ last. loop_seen c.args.findings.now c.expression-low.new.findings
+    c.expression-high.new.findings c.note_bounds.new.findings c.iterations.new.findings
     (map procedure_tree c.args.earlier.now) c.args.names.now c.args.control c.expression-low.result
     c.expression-high.result
     c.args.statement.now c.in-For.place c.in-For.counter c.in-For.low c.in-For.high c.in-For.body
     c.as_slice-in-For.result.now c.in-For.is
     c.as_slice-in-For.ensures.value c.expression-low.ensures.typed c.expression-high.ensures.typed
-    c.expression-low.ensures.first c.expression-high.ensures.first c.note_bounds.ensures last)
-    c.iterations.ensures.first
+    c.expression-low.ensures.findings c.expression-high.ensures.findings c.note_bounds.ensures last)
+    c.iterations.ensures.findings
