@@ -11,6 +11,7 @@ pub mod PairedLemmas
 pub mod Exports
 pub mod GrammaticalExports
 pub mod FlattenedLemmas
+pub mod ListedLemmas
 pub mod JudgementLemmas
 pub mod PlaceLemmas
 pub mod RefusalLemmas

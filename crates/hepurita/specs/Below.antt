@@ -22,7 +22,7 @@ pub use Rattle.rv_machine.specs.declared.stops.Stop.TheVariants.{Misaligned, Rec
 pub use Rattle.language.specs.Evaluation.{body_run, call_run, continued, ended, export_run, program_run, return_run}
 pub use Rattle.language.specs.Evaluation.{right_run, Run, run, run_all, Runnable, runnable, runnables, value, values}
 unfoldable pub use Rattle.language.specs.Evaluation.{andthen, inside, tick}
-pub use Rattle.language.specs.FirstViolation.{IsFirst, IsNoLaterThan, IsRefusedFor, IsToldOf}
+pub use Rattle.language.specs.FirstViolation.{IsFirst, IsNamed, IsNoLaterThan, IsRefusedFor, IsToldOf, TellsOf}
 pub use Rattle.language.specs.Grammatical.{AreAllSmall, ArePlain, IsGrammatical, IsPlain, IsSmallRight}
 pub use Rattle.language.specs.Known.{first_known, Known, known_from, known_of, nothing_known, with_known}
 pub use Rattle.language.specs.Limits.{most_bodies, most_nodes}
@@ -33,6 +33,7 @@ pub use Rattle.language.specs.Rules.{rank_of, refusal_text}
 pub use Rattle.language.specs.Shares.{cost_of, excess, sum_of}
 pub use Rattle.language.specs.Size.{array_words, bodies_of, element_bytes, extents_of, nodes_in, nodes_in_all}
 pub use Rattle.language.specs.Size.{nodes_of, nodes_passed, return_nodes, return_shares, size_violations}
+pub use Rattle.language.specs.Sooner.{sooner}
 pub use Rattle.language.specs.State.{single}
 pub use Rattle.language.specs.Tree.{array, assignment, binary, BlockTree, call, called, CallTree, computed}
 pub use Rattle.language.specs.Tree.{conditional, convert, declaration, element, element_assignment, ExprTree, first}
@@ -88,7 +89,9 @@ pub use Rattle.language.specs.declared.values.Arg.{Arg}
 pub use Rattle.language.specs.declared.values.Arg.TheVariants.{Array, Word}
 pub use Rattle.language.specs.declared.why.Counted.TheVariants.{Work}
 pub use Rattle.language.specs.declared.why.Share.{Share}
-pub use Rattle.language.specs.declared.why.Why.TheVariants.{TooMuch}
+pub use Rattle.language.specs.declared.why.Why.TheVariants.{Plain, TooMuch}
+pub use Rattle.findings.specs.Order.{AreInOrder}
+pub use Rattle.findings.specs.Passes.{first_found}
 pub use Rattle.inline.specs.Flat.{assign, branch, chain, declaration_of, declare, FlatBlock, FlatProgram, FlatTree}
 pub use Rattle.inline.specs.Flat.{hold, length_of, put, skip, TermTree, word_as}
 pub use Rattle.inline.specs.FlatMeaning.{after, after_all, given, outcome_of, value_in, Values}

@@ -6,6 +6,7 @@
 --   other code; Uncut, CutOff: of runs that no recorder cuts short, and of runs that are cut off.
 -- Blank: the words of a frame that have to be zeros where code begins; Needs: all that code needs of its frame there;
 --   Begun: a body in a frame of any bytes.
+-- Listed: all that a source violates.
 -- Executed, Paired, Answers: what `execute` and `pair` answer; Text: how errors of a run are printed.
 -- Bases: the standard base addresses; Frames: where data is in a frame.
 -- grammar_laws: heads of nodes, for laws on the grammar; source_work: work as a sum over the source.
@@ -31,3 +32,4 @@ pub mod Uncut
 pub mod Below
 pub mod grammar_laws
 pub mod source_work
+pub mod Listed

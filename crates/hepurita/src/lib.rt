@@ -24,6 +24,7 @@ mod reading;
 mod results;
 pub mod run_bounds;
 pub mod source_work;
+mod violating;
 
 pub use building::{
     accepted_or_refused, build, build_as, build_with, each_source_is_judged, one_refusal,
@@ -46,3 +47,4 @@ pub use needs::FrameNeeds;
 pub use optimised::Optimisation;
 pub use reading::read_args;
 pub use results::{ResultSpace, outcome, result_space};
+pub use violating::{listed_violations_are_judged, violations};
