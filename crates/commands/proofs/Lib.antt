@@ -19,6 +19,7 @@ mod RequestLemmas
 mod JoinedLines
 mod SourceLemmas
 mod AnswerLemmas
+mod JsonLemmas
 mod MeaningLemmas
 mod HartLemmas
 mod VectorLemmas

@@ -3,11 +3,13 @@
 use Rattle.std.specs.Prelude.{◌≡◌, ℕ, List}
 use Rattle.commands.specs.Contents.{Store}
 use Rattle.commands.specs.Leaks.{IsOutputFault}
-use Rattle.commands.specs.Requests.{Reports, Performs}
+use Rattle.commands.specs.Requests.{Reports}
 use Rattle.commands.specs.Unread.{IsOutOfMemory}
 use Rattle.commands.specs.command_line.Words.{IsAskedBy, WritesNoneItReads}
 use Rattle.commands.specs.declared.command_line.words.Request.{Request}
+use Rattle.commands.specs.declared.command_line.options.Format.{Format}
 use Rattle.commands.specs.declared.fault.Fault.{Fault}
+use Rattle.commands.specs.json.Performed.{PerformsAs}
 use Rattle.commands.specs.Below.{Collected, IsPut, IsPutInPart, IsPutWhole}
 
 -- what is said where words ask for no request, with which exit status: help or the version on standard output, or that
@@ -22,8 +24,8 @@ pub data Says (out out' err err' : Collected) : ℕ → Type 0 where
 
 -- what comes of words, with which exit status: no request is done that would write a file that it reads
 pub data Commands (words : List (List ℕ)) (before after : Store) (out out' err err' : Collected) : ℕ → Type 0 where
-  performed : {request : Request} {status : ℕ} → IsAskedBy words request → WritesNoneItReads request
-      → Performs request before after out out' err err' status
+  performed : (request : Request) (format : Format) {status : ℕ} → IsAskedBy words request
+      → WritesNoneItReads request → PerformsAs format request before after out out' err err' status
       → Commands words before after out out' err err' status
   said : {status : ℕ} → after ≡ before → Says out out' err err' status
       → Commands words before after out out' err err' status

@@ -175,10 +175,13 @@ pub data Performs (request : Request) (before after : Store) (out out' err err' 
       → Performs request before after out out' err err' status
 
 -- which calls of files and of standard output failed, by the exit status, whether or not it is known what they hold
--- and have taken: none; or one of either, which is answered by status 3, or by 4 where there was no memory to say so
+-- and have taken: none; or one of either, or one of each where the line of JSON on a file that failed is not printed,
+-- which is answered by status 3, or by 4 where there was no memory to say so
 pub data EndsByStatus (before after printed printed' : ℕ) : ℕ → Type 0 where
   calm : {status : ℕ} → after ≡ before → printed' ≡ printed → EndsByStatus before after printed printed' status
   files_failed : {status : ℕ} → after ≡ one_more before → printed' ≡ printed → (status ≡ 3) ⊎ (status ≡ 4)
       → EndsByStatus before after printed printed' status
   output_failed : {status : ℕ} → after ≡ before → printed' ≡ one_more printed → (status ≡ 3) ⊎ (status ≡ 4)
+      → EndsByStatus before after printed printed' status
+  both_failed : {status : ℕ} → after ≡ one_more before → printed' ≡ one_more printed → (status ≡ 3) ⊎ (status ≡ 4)
       → EndsByStatus before after printed printed' status

@@ -8,7 +8,7 @@ mod options;
 mod words;
 
 pub use options::{
-    CertifyOptions, CompileOptions, FunctionOptions, LinkOptions, ObservedOptions, PairOptions,
-    StepOptions,
+    CertifyOptions, CompileOptions, Format, FunctionOptions, LinkOptions, ObservedOptions,
+    PairOptions, StepOptions,
 };
-pub use words::{Matched, NoRequest, Request, parse};
+pub use words::{FormattedRequest, Matched, NoRequest, Request, parse};

@@ -18,6 +18,7 @@ mod foreign_code;
 mod function_files;
 mod function_words;
 mod images;
+mod json;
 mod measuring;
 mod outcome;
 mod performing;
@@ -30,7 +31,7 @@ mod telling;
 mod texts;
 mod trying;
 
-pub use crate::command_line::Request;
+pub use crate::command_line::{Format, FormattedRequest, Request};
 pub use fault::{Fault, FileFault};
 pub use files::Files;
 pub use performing::{command, perform};

@@ -8,10 +8,11 @@ ghost use Rattle.commands.specs.FaultText.{fault_status};
 ghost use Rattle.commands.specs.Progress.{RequestTells};
 ghost use Rattle.commands.specs.Requests.{Reports, Performs, EndsByStatus};
 ghost use Rattle.commands.specs.Below.{collected, HasLines, one_more, Reaches};
+ghost use Rattle.commands.specs.json.Performed.{PerformsAs};
 
 use crate::answer::{Answer, DONE};
 use crate::certifying::certify_image;
-use crate::command_line::{NoRequest, Request, parse};
+use crate::command_line::{Format, FormattedRequest, NoRequest, Request, parse};
 use crate::elf_certifying::certify_elf;
 use crate::elf_listing::leak_elf;
 use crate::elf_witnessing::witness_elf;
@@ -21,6 +22,7 @@ use crate::files::Files;
 use crate::foreign_code::wrap_code;
 use crate::function_files::write_function;
 use crate::images::{leak_image, list_image, pair_image, run_image};
+use crate::json::perform_in_json;
 use crate::measuring::measure_file;
 use crate::picturing::picture_image;
 use crate::side_by_side::run_file;
@@ -58,14 +60,38 @@ pub fn command<'a, F: Files, O: Sink, E: Sink>(
 {
     let mut matched = None;
     match parse(alloc, words, &mut matched) {
-        Ok(request) => perform(alloc, request, files, out, err),
+        Ok(asked) => perform(alloc, asked, files, out, err),
         Err(said) => explain(alloc, said, out, err),
     }
 }
 
-/// Does what is asked for, prints what answers it, or why it is not done, and answers the exit status. Lines of
-/// progress and of steps go to `err` before that.
+/// Does what is asked for and prints what answers it, or why it is not done, in the format that is asked for, and
+/// answers the exit status. Lines of progress and of steps go to `err` before that.
 pub fn perform<F: Files, O: Sink, E: Sink>(
+    alloc: Global,
+    asked: FormattedRequest<'_>,
+    files: &mut F,
+    out: &mut O,
+    err: &mut E,
+) -> u8
+    ensures performed { IsTrue F.TELLS → IsTrue O.TELLS → IsTrue E.TELLS
+        → PerformsAs asked.entry.format asked.entry.request (F.store files.old) (F.store files.new)
+        (collected (O.taken out.old) (O.failures out.old)) (collected (O.taken out.new) (O.failures out.new))
+        (collected (E.taken err.old) (E.failures err.old)) (collected (E.taken err.new) (E.failures err.new)) result }
+    ensures known { result ≤ 5 }
+    ensures calm { result ≡ 0 → O.failures out.new ≡ O.failures out.old }
+    ensures counted { EndsByStatus (F.store files.old).failures (F.store files.new).failures
+        (O.failures out.old) (O.failures out.new) result }
+{
+    let FormattedRequest { request, format } = asked;
+    match format {
+        Format::Text => perform_in_text(alloc, request, files, out, err),
+        Format::Json => perform_in_json(alloc, request, files, out, err),
+    }
+}
+
+/// The same in text.
+pub fn perform_in_text<F: Files, O: Sink, E: Sink>(
     alloc: Global,
     request: Request<'_>,
     files: &mut F,
@@ -90,7 +116,7 @@ pub fn perform<F: Files, O: Sink, E: Sink>(
 
 /// Prints the fault's line, and answers its exit status. Where there is no memory for the line, the
 /// fault is out of memory. That the line could not be printed is nowhere to be said.
-fn report<E: Sink>(alloc: Global, fault: &Fault<'_>, err: &mut E) -> u8
+pub fn report<E: Sink>(alloc: Global, fault: &Fault<'_>, err: &mut E) -> u8
     ensures reported { IsTrue E.TELLS → Reports fault.now (collected (E.taken err.old) (E.failures err.old))
         (collected (E.taken err.new) (E.failures err.new)) result }
     ensures status { (result ≡ fault_status fault.now) ⊎ (result ≡ 4) }

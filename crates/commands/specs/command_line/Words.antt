@@ -8,16 +8,17 @@ use Rattle.commands.specs.declared.command_line.words.Request.{Request}
 use Rattle.commands.specs.declared.command_line.words.Request.TheVariants.{Build, Certify, Eval, Function, Leak, Pair}
 use Rattle.commands.specs.declared.command_line.words.Request.TheVariants.{Picture, Run, Wrap}
 
--- whether a word is a flag that may stand between a command that takes arguments and its path, or `--with=` and a
--- library
+-- whether a word may stand alone between a command that takes arguments and its path: a flag, `--format=` and a format,
+-- or `--with=` and a library
 abbrev pub is_flag : List ℕ → Bool
 is_flag word =
     bytes_eq word (codes "--explain") || bytes_eq word (codes "--shifts") || bytes_eq word (codes "--progress")
-    || bytes_eq word (codes "--steps") || starts_with nat_eq word (codes "--with=")
+    || bytes_eq word (codes "--steps") || starts_with nat_eq word (codes "--format=")
+    || starts_with nat_eq word (codes "--with=")
 
 -- whether a word stands there with a value behind it
 abbrev pub takes_value : List ℕ → Bool
-takes_value word = bytes_eq word (codes "--with")
+takes_value word = bytes_eq word (codes "--format") || bytes_eq word (codes "--with")
 
 -- the words from the first on that is no flag and takes no value
 abbrev mutual

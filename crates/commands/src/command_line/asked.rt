@@ -8,9 +8,9 @@ ghost use Rattle.commands.specs.command_line.Words.{arguments_of, profile_named,
 
 use crate::command_line::on_executables::request_on_executable;
 use crate::command_line::options::{
-    CertifyOptions, CompileOptions, LinkOptions, PairOptions, StepOptions,
+    CertifyOptions, CompileOptions, Format, LinkOptions, PairOptions, StepOptions,
 };
-use crate::command_line::words::Request;
+use crate::command_line::words::{FormattedRequest, Request};
 use clap::ArgMatches;
 use clap::error::ErrorKind;
 use explanations::explanation;
@@ -35,21 +35,34 @@ fn lost(text: &'static str) -> (ErrorKind, &'static str) {
     (ErrorKind::ArgumentConflict, text)
 }
 
-/// What the words ask for, where these are the arguments behind a path; else the kind of what is wrong, and its text.
+/// What the words ask for and how it is to be answered, where these are the arguments behind a path; else the kind of
+/// what is wrong, and its text.
 pub(crate) fn request_of<'a>(
     matches: &'a ArgMatches<'_>,
     arguments: &'a [&'a str],
-) -> Result<Request<'a>, (ErrorKind, &'static str)>
-    ensures asked { IfOk result (λ request.
-        IfSome (arguments_of request) (λ given. given ≡ map (λ word. word.now) arguments.now)) }
-    ensures apart { IfOk result WritesNoneItReads }
+) -> Result<FormattedRequest<'a>, (ErrorKind, &'static str)>
+    ensures asked { IfOk result (λ asked.
+        IfSome (arguments_of asked.request) (λ given. given ≡ map (λ word. word.now) arguments.now)) }
+    ensures apart { IfOk result (λ asked. WritesNoneItReads asked.request) }
 {
     let Some((name, given)) = matches.subcommand() else {
         return Err(NO_COMMAND);
     };
+    let format = format_of(given);
     match request_with(name, given, arguments) {
-        Some(request) => Ok(request),
-        None => request_without(name, given),
+        Some(request) => Ok(FormattedRequest { request, format }),
+        None => {
+            let request = request_without(name, given)?;
+            Ok(FormattedRequest { request, format })
+        }
+    }
+}
+
+/// How the answer is printed: as text, unless JSON is asked for.
+fn format_of(given: &ArgMatches<'_>) -> Format {
+    match given.get_str("format") {
+        Some("json") => Format::Json,
+        _ => Format::Text,
     }
 }
 

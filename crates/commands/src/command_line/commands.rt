@@ -20,6 +20,8 @@ pub(crate) enum CommandWord {
     Optimisation,
     /// Whether it is to be small.
     SmallCode,
+    /// How the answer is printed.
+    Format(&'static str),
     /// A flag that is given or not.
     Flag(&'static str, &'static str),
     /// All further words: arguments of a run.
@@ -58,6 +60,16 @@ const PROGRESS: &str =
 const PROGRESS_ANYWHERE: &str =
     "Prints a line to standard error after each 134217728 steps, as long as the run goes on";
 
+/// What `--format` does.
+const FORMAT: &str =
+    "How the answer is printed: as text, or as one object of JSON on a line of standard output, also if the command is \
+     refused or fails";
+
+/// The same of a command that takes arguments.
+const FORMAT_FIRST: &str =
+    "How the answer is printed: as text, or as one object of JSON on a line of standard output, also if the command is \
+     refused or fails; must come before FILE or IMAGE";
+
 /// The libraries of a source.
 const LIBRARIES: CommandWord = CommandWord::Texts(
     "with",
@@ -77,6 +89,7 @@ pub(crate) static COMMANDS: [CommandRow; 15] = [
             CommandWord::Path("FILE", "The source to check"),
             LIBRARIES,
             CommandWord::Profile,
+            CommandWord::Format(FORMAT),
             CommandWord::Flag("explain", EXPLAIN),
         ],
     },
@@ -93,6 +106,7 @@ pub(crate) static COMMANDS: [CommandRow; 15] = [
             CommandWord::Profile,
             CommandWord::Optimisation,
             CommandWord::SmallCode,
+            CommandWord::Format(FORMAT),
             CommandWord::Flag("explain", EXPLAIN),
         ],
     },
@@ -125,6 +139,7 @@ pub(crate) static COMMANDS: [CommandRow; 15] = [
             CommandWord::Profile,
             CommandWord::Optimisation,
             CommandWord::SmallCode,
+            CommandWord::Format(FORMAT),
             CommandWord::Flag("explain", EXPLAIN),
         ],
     },
@@ -142,6 +157,7 @@ pub(crate) static COMMANDS: [CommandRow; 15] = [
             CommandWord::Profile,
             CommandWord::Optimisation,
             CommandWord::SmallCode,
+            CommandWord::Format(FORMAT),
         ],
     },
     CommandRow {
@@ -155,6 +171,7 @@ pub(crate) static COMMANDS: [CommandRow; 15] = [
                 "A source that is read before FILE, as for `build`; may be given several times; must come before FILE",
             ),
             CommandWord::Flag("explain", EXPLAIN_FIRST),
+            CommandWord::Format(FORMAT_FIRST),
             CommandWord::Arguments(ARGUMENTS),
         ],
     },
@@ -195,6 +212,7 @@ pub(crate) static COMMANDS: [CommandRow; 15] = [
                 "Prints a line to standard error after each 134217728 steps of both runs, as long as both go on; must \
                  come before IMAGE",
             ),
+            CommandWord::Format(FORMAT_FIRST),
             CommandWord::Arguments(
                 "Those of the first run, one for each parameter and as for `run`, then those of the second",
             ),
@@ -217,6 +235,7 @@ pub(crate) static COMMANDS: [CommandRow; 15] = [
                  each of them comes from; must come before IMAGE",
             ),
             CommandWord::Flag("progress", PROGRESS),
+            CommandWord::Format(FORMAT_FIRST),
             CommandWord::Arguments(
                 "One for each parameter, as for `run`; for a secret one `?` stands for every value of its type",
             ),
@@ -287,6 +306,7 @@ pub(crate) static COMMANDS: [CommandRow; 15] = [
             CommandWord::Profile,
             CommandWord::Optimisation,
             CommandWord::SmallCode,
+            CommandWord::Format(FORMAT),
         ],
     },
     CommandRow {

@@ -55,6 +55,7 @@ fn argument<'a>(alloc: Global, word: &CommandWord) -> Arg<'a> {
         CommandWord::Profile => profile(alloc),
         CommandWord::Optimisation => optimisation(alloc),
         CommandWord::SmallCode => small_code(alloc),
+        CommandWord::Format(help) => format(alloc, help),
         CommandWord::Flag(name, help) => flag(alloc, name, help),
         CommandWord::Arguments(help) => arguments(alloc, help),
         CommandWord::Operands(help) => operands(alloc, help),
@@ -132,6 +133,20 @@ fn profile<'a>(alloc: Global) -> Arg<'a> {
             "The observer from whom secrets are kept: one to whom multiplications show nothing of their operands (1), \
              or one who sees the operands of multiplications too (2)",
         )
+}
+
+/// The names of the formats.
+static FORMATS: [&str; 2] = ["text", "json"];
+
+/// How the answer is printed.
+fn format<'a>(alloc: Global, help: &'static str) -> Arg<'a> {
+    Arg::new(alloc, "format")
+        .long("format")
+        .value_name("FORMAT")
+        .action(ArgAction::Set)
+        .value_parser(FORMATS.as_slice())
+        .default_value("text")
+        .help(help)
 }
 
 /// Whether optimised code is asked for.

@@ -6,6 +6,13 @@ use functions::function_text::{Notation, Prefix};
 use hepurita::Optimisation;
 use word::Profile;
 
+/// How an answer is printed: as text, or as objects of JSON.
+#[derive(Clone, Copy, Debug, PartialEq, Eq)]
+pub enum Format {
+    Text,
+    Json,
+}
+
 /// For which observer a source is compiled, whether to plain or to optimised code, and whether its refusal is
 /// explained.
 #[derive(Clone, Copy, Debug)]

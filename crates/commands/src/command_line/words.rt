@@ -5,8 +5,8 @@ ghost use Rattle.commands.specs.command_line.Words.{takes_value, WritesNoneItRea
 use crate::command_line::asked::request_of;
 use crate::command_line::grammar::factc;
 use crate::command_line::options::{
-    CertifyOptions, CompileOptions, FunctionOptions, LinkOptions, ObservedOptions, PairOptions,
-    StepOptions,
+    CertifyOptions, CompileOptions, Format, FunctionOptions, LinkOptions, ObservedOptions,
+    PairOptions, StepOptions,
 };
 use clap::error::ErrorKind;
 use clap::{ArgMatches, Error};
@@ -114,6 +114,12 @@ pub enum Request<'a> {
     },
 }
 
+/// What the words ask for, and how it is to be answered.
+pub struct FormattedRequest<'a> {
+    pub request: Request<'a>,
+    pub format: Format,
+}
+
 /// Why the words ask for no command, with the text that is to be printed.
 #[derive(Debug, Drop)]
 pub enum NoRequest {
@@ -135,9 +141,9 @@ pub fn parse<'a, 'w>(
     alloc: Global,
     words: &'w [&'w str],
     matched: &'a mut Matched<'w>,
-) -> Result<Request<'a>, NoRequest>
-    ensures asked { IfOk result (IsAskedBy (map (λ word. word.now) words.now)) }
-    ensures apart { IfOk result WritesNoneItReads }
+) -> Result<FormattedRequest<'a>, NoRequest>
+    ensures asked { IfOk result (λ asked. IsAskedBy (map (λ word. word.now) words.now) asked.request) }
+    ensures apart { IfOk result (λ asked. WritesNoneItReads asked.request) }
 {
     match asked(alloc, words, matched) {
         Ok(request) => Ok(request),
@@ -162,9 +168,9 @@ fn asked<'a, 'w>(
     alloc: Global,
     words: &'w [&'w str],
     matched: &'a mut Matched<'w>,
-) -> Result<Request<'a>, Error>
-    ensures asked { IfOk result (IsAskedBy (map (λ word. word.now) words.now)) }
-    ensures apart { IfOk result WritesNoneItReads }
+) -> Result<FormattedRequest<'a>, Error>
+    ensures asked { IfOk result (λ asked. IsAskedBy (map (λ word. word.now) words.now) asked.request) }
+    ensures apart { IfOk result (λ asked. WritesNoneItReads asked.request) }
 {
     let mut command = factc(alloc)?;
     let matches = matched.insert(command.try_get_matches_from_mut(words)?);
@@ -174,8 +180,8 @@ fn asked<'a, 'w>(
     }
 }
 
-/// The words after a command, its flags and its FILE or IMAGE. Each of them is an argument, also `--` and what looks
-/// like a flag; before the path, behind the flags, `--` says that the path may begin with a hyphen.
+/// The words after a command, its flags and values and its FILE or IMAGE. Each of them is an argument, also `--` and
+/// what looks like a flag; before the path, behind the flags, `--` says that the path may begin with a hyphen.
 fn after_path<'a>(words: &'a [&'a str]) -> &'a [&'a str]
     ensures { map (λ word. word.now) result.now ≡ after_path (map (λ word. word.now) words.now) }
 {
@@ -227,6 +233,7 @@ fn is_flag(word: &str) -> bool
         || word == "--shifts"
         || word == "--progress"
         || word == "--steps"
+        || word.as_bytes().starts_with(b"--format=")
         || word.as_bytes().starts_with(b"--with=")
 }
 
@@ -234,5 +241,5 @@ fn is_flag(word: &str) -> bool
 fn takes_value(word: &str) -> bool
     ensures { result ≡ takes_value word.now }
 {
-    word == "--with"
+    word == "--format" || word == "--with"
 }
