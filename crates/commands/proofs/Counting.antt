@@ -4,7 +4,7 @@ use Rattle.std.proofs.Common.{◌≡◌, ◌≢◌, ℕ, Bool, true, false, List
 use Rattle.commands.specs.Contents.{Store, failed, failed_times}
 use Rattle.commands.specs.FaultText.{fault_status}
 use Rattle.commands.specs.Failures.{IsReadBy, IsReadOrPrinted, failures_by, CountsFailures, of_files, of_output}
-use Rattle.commands.specs.Judged.{IsExplainedIn, TellsIn, plainly, with_lines, without_memory}
+use Rattle.commands.specs.Judged.{as_told, IsExplainedIn, TellsIn, plainly, with_lines, without_memory}
 use Rattle.commands.specs.Sources.{IsToldIn, standing}
 use Rattle.commands.specs.Leaks.{IsOutputFault}
 use Rattle.commands.specs.Requests.{EndsByStatus, calm, files_failed, output_failed}
@@ -78,9 +78,9 @@ explained_in_calm (Some path) refusal below (File file) is same = absurd is
 
 pub tells_in_calm : (text : List ℕ) (by_lines : List (List ℕ × ℕ)) (refusal : Refusal) (explain : Bool) (fault : Fault)
     {before after : Store} → TellsIn text by_lines refusal explain fault → after ≡ before → IsReadBy fault before after
-tells_in_calm text by_lines refusal false fault (plainly told at is) same =
+tells_in_calm text by_lines refusal false fault (as_told (plainly told at is)) same =
     in_calm (standing by_lines refusal).0 told fault is same
-tells_in_calm text by_lines refusal true fault (with_lines told lines at explains is) same =
+tells_in_calm text by_lines refusal true fault (as_told (with_lines told lines at explains is)) same =
     explained_in_calm (standing by_lines refusal).0 told lines fault is same
 tells_in_calm text by_lines refusal true fault (without_memory memory) same = memory_calm fault memory same
 

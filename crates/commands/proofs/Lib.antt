@@ -23,3 +23,4 @@ mod JsonLemmas
 mod MeaningLemmas
 mod HartLemmas
 mod VectorLemmas
+mod ViolationLemmas

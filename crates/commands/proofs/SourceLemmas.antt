@@ -7,8 +7,8 @@ use Rattle.std.proofs.lemmas.List.{take_all}
 use Rattle.std.proofs.lemmas.List.Elements.{All-nil, All-cons, All-append}
 use Rattle.commands.specs.Below.{IsRefusalOf, IsText, numbered_of, Profile, Refusal, source_limit}
 use Rattle.commands.specs.Contents.{Contents}
-use Rattle.commands.specs.Judged.{IsExplainedIn, IsRefusedIn, IsRefusedText, plainly, refused_text, TellsIn, with_lines}
-use Rattle.commands.specs.Judged.{without_memory}
+use Rattle.commands.specs.Judged.{IsExplainedIn, IsRefusedIn, IsRefusedText, IsToldBy, plainly, refused_text}
+use Rattle.commands.specs.Judged.{TellsIn, with_lines, without_memory}
 use Rattle.commands.specs.Sources.{AreHeld, by_file, by_library, IsAtLine, IsReadFrom, IsToldIn, joined, LibraryText}
 use Rattle.commands.specs.Sources.{lines_in, NoSources, NoTextBelow, numbered, standing}
 use Rattle.commands.specs.Unread.{IsOutOfMemory}
@@ -178,18 +178,18 @@ refused_in_sources {explain} {profile} {fault = fault} read why =
 pub told_plainly : {text : List ℕ} {by_lines : List (List ℕ × ℕ)} {refusal : Refusal} {explain : Bool} {fault : Fault}
     {library : Option (List ℕ)} (told : Refusal) → explain ≡ false
     → IsAtLine (standing by_lines refusal).1 refusal told → library ≡ (standing by_lines refusal).0
-    → IsToldIn library told fault → TellsIn text by_lines refusal explain fault
+    → IsToldIn library told fault → IsToldBy text by_lines refusal explain fault
 told_plainly {text} {by_lines} {refusal} {fault = fault} told plain at there is =
-    subst (λ (b : Bool). TellsIn text by_lines refusal b fault) (sym plain)
+    subst (λ (b : Bool). IsToldBy text by_lines refusal b fault) (sym plain)
     (plainly told at (subst (λ (l : Option (List ℕ)). IsToldIn l told fault) there is))
 
 pub told_with_lines : {text : List ℕ} {by_lines : List (List ℕ × ℕ)} {refusal : Refusal} {explain : Bool}
     {fault : Fault} {library : Option (List ℕ)} (told : Refusal) (lines : List ℕ) → explain ≡ true
     → IsAtLine (standing by_lines refusal).1 refusal told → library ≡ (standing by_lines refusal).0
     → Explains text refusal lines → IsExplainedIn library told lines fault
-    → TellsIn text by_lines refusal explain fault
+    → IsToldBy text by_lines refusal explain fault
 told_with_lines {text} {by_lines} {refusal} {fault = fault} told lines explained at there explains is =
-    subst (λ (b : Bool). TellsIn text by_lines refusal b fault) (sym explained)
+    subst (λ (b : Bool). IsToldBy text by_lines refusal b fault) (sym explained)
     (with_lines told lines at explains (subst (λ (l : Option (List ℕ)). IsExplainedIn l told lines fault) there is))
 
 pub told_without_memory : {text : List ℕ} {by_lines : List (List ℕ × ℕ)} {refusal : Refusal} {explain : Bool}

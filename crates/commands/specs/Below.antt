@@ -30,6 +30,7 @@ pub use Rattle.language.specs.arguments.Faults.{count_fault, shifted}
 pub use Rattle.language.specs.arguments.Texts.{fault_of_texts, numbers_of, rule_of_text}
 pub use Rattle.language.specs.arguments.Within.{AreWithin, words_of}
 pub use Rattle.language.specs.declared.arguments.fault.ArgumentFault.{ArgumentFault}
+pub use Rattle.language.specs.FirstViolation.{TellsOf}
 pub use Rattle.language.specs.declared.refusal.Refusal.{Refusal}
 pub use Rattle.language.specs.declared.rule.Rule.TheVariants.{TextTooLong}
 pub use Rattle.language.specs.declared.signature.Param.{Param}
@@ -47,10 +48,12 @@ unfoldable pub use Rattle.image.specs.Reading.{image_format, result_format, slot
 pub use Rattle.image.specs.declared.fault.ImageFault.{ImageFault}
 pub use Rattle.image.specs.declared.fault.ImageFault.TheVariants.{Field}
 pub use Rattle.image.specs.declared.fault.ImageRule.{ImageRule}
+pub use Rattle.language.specs.declared.typing.Violation.{Violation}
 pub use Rattle.hepurita.specs.Bases.{code_base, frame_base, most_images}
 pub use Rattle.hepurita.specs.Built.{accepts, IsBuilt, Judges}
 pub use Rattle.hepurita.specs.Compiled.{Means}
 pub use Rattle.hepurita.specs.Executed.{Executed}
+pub use Rattle.hepurita.specs.Listed.{ListsViolations}
 pub use Rattle.hepurita.specs.Paired.{compared, first_of, Paired}
 pub use Rattle.hepurita.specs.Told.{IsRefusalOf}
 pub use Rattle.hepurita.specs.declared.fault.RunFault.{RunFault}

@@ -34,14 +34,19 @@ IsExplainedIn (Some path) refusal below (ExplainedInLibrary named told lines) = 
     × (string_bytes lines ≡ below)
 IsExplainedIn library refusal below other = ⊥
 
--- how a refusal of a joined text is told: at its line in the library or the file where it stands; where it is to be
--- explained, with the lines that explain it in the joined text, or there was no memory for these
-pub data TellsIn (text : List ℕ) (by_lines : List (List ℕ × ℕ)) (refusal : Refusal) : Bool → Fault → Type 0 where
+-- the fault by which a refusal of a joined text is told: at its line in the library or the file where it stands; where
+-- it is to be explained, with the lines that explain it in the joined text
+pub data IsToldBy (text : List ℕ) (by_lines : List (List ℕ × ℕ)) (refusal : Refusal) : Bool → Fault → Type 0 where
   plainly : (told : Refusal) {fault : Fault} → IsAtLine (standing by_lines refusal).1 refusal told
-      → IsToldIn (standing by_lines refusal).0 told fault → TellsIn text by_lines refusal false fault
+      → IsToldIn (standing by_lines refusal).0 told fault → IsToldBy text by_lines refusal false fault
   with_lines : (told : Refusal) (lines : List ℕ) {fault : Fault} → IsAtLine (standing by_lines refusal).1 refusal told
       → Explains text refusal lines → IsExplainedIn (standing by_lines refusal).0 told lines fault
-      → TellsIn text by_lines refusal true fault
+      → IsToldBy text by_lines refusal true fault
+
+-- how a refusal of a joined text is told; or there was no memory for the lines that explain it
+pub data TellsIn (text : List ℕ) (by_lines : List (List ℕ × ℕ)) (refusal : Refusal) : Bool → Fault → Type 0 where
+  as_told : {explain : Bool} {fault : Fault} → IsToldBy text by_lines refusal explain fault
+      → TellsIn text by_lines refusal explain fault
   without_memory : {fault : Fault} → IsOutOfMemory fault → TellsIn text by_lines refusal true fault
 
 -- why a joined text is not accepted: its first refusal, explained or not

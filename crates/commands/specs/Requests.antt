@@ -21,9 +21,11 @@ use Rattle.commands.specs.Pairs.{SaysPair, RefusesPair, SaysList}
 use Rattle.commands.specs.Pictures.{SaysPicture, RefusesPicture}
 use Rattle.commands.specs.Progress.{RequestTells}
 use Rattle.commands.specs.Runs.{SaysFileRun, RefusesRun}
+use Rattle.commands.specs.Sources.{NoSources}
 use Rattle.commands.specs.TwoFiles.{WritesTwo, FailsToWriteTwo}
 use Rattle.commands.specs.Unread.{IsOutOfMemory}
 use Rattle.commands.specs.Vectors.{SaysVectors, RefusesVectors}
+use Rattle.commands.specs.Violations.{SaysViolations}
 use Rattle.commands.specs.WrappedCode.{IsImageOfCode, RefusesCode}
 use Rattle.commands.specs.Written.{WritesFile, FailsToWrite}
 use Rattle.commands.specs.declared.fault.Fault.{Fault}
@@ -35,6 +37,8 @@ abbrev pub Answers : Request → Contents → List ℕ → ℕ → Type 0
 Answers (requests.Check libraries file profile explain) files text status =
     IsAccepted profile files (map (λ path. path.now) libraries.now) file.now × (text ≡ codes "accepted\n")
     × (status ≡ 0)
+Answers (requests.CheckAll libraries file profile explain) files text status =
+    SaysViolations explain profile files (map (λ path. path.now) libraries.now) file.now text status
 Answers (requests.Build libraries file image options) files text status = (text ≡ []) × (status ≡ 0)
 Answers (requests.Stat libraries file profile optimisation) files text status =
     SaysFileCosts optimisation profile files (map (λ path. path.now) libraries.now) file.now text × (status ≡ 0)
@@ -70,6 +74,7 @@ Answers (requests.ElfWitness file words options tries) files text status =
 -- what files hold once a request is done: an image or a function's texts that were written, and else what they held
 abbrev pub Leaves : Request → Contents → Contents → Type 0
 Leaves (requests.Check libraries file profile explain) before after = after ≡ before
+Leaves (requests.CheckAll libraries file profile explain) before after = after ≡ before
 Leaves (requests.Build libraries file image options) before after =
     WritesFile image.now
     (IsImageOf options.optimisation options.profile before (map (λ path. path.now) libraries.now) file.now) before after
@@ -98,6 +103,8 @@ Leaves (requests.ElfWitness file words options tries) before after = after ≡ b
 abbrev pub Refuses : Request → Contents → Contents → Fault → Type 0
 Refuses (requests.Check libraries file profile explain) before after fault =
     IsRefusedIn explain profile before (map (λ path. path.now) libraries.now) file.now fault × (after ≡ before)
+Refuses (requests.CheckAll libraries file profile explain) before after fault =
+    NoSources before (map (λ path. path.now) libraries.now) file.now fault × (after ≡ before)
 Refuses (requests.Build libraries file image options) before after fault =
     FailsToWrite image.now
     (IsImageOf options.optimisation options.profile before (map (λ path. path.now) libraries.now) file.now)

@@ -1,9 +1,11 @@
 ghost use Rattle.std.specs.Prelude.{◌≡◌, ◌≤◌};
 ghost use Rattle.std.specs.String.{string_bytes};
 
-/// The exit status of what is done, that of a run that may show a secret, and that of a run that stops otherwise than
-/// by ECALL.
+/// The exit status of what is done, that of what is refused, that of a run that may show a secret, and that of a run
+/// that stops otherwise than by ECALL.
 pub const DONE: u8 = 0;
+
+pub const REFUSED: u8 = 1;
 
 pub const MAY_DIFFER: u8 = 1;
 

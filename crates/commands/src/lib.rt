@@ -30,6 +30,7 @@ mod step_counts;
 mod telling;
 mod texts;
 mod trying;
+mod violations;
 
 pub use crate::command_line::{Format, FormattedRequest, Request};
 pub use fault::{Fault, FileFault};

@@ -28,6 +28,7 @@ use crate::picturing::picture_image;
 use crate::side_by_side::run_file;
 use crate::texts::{build_image, check_text};
 use crate::trying::try_file;
+use crate::violations::check_all;
 use explanations::Explanation;
 use input_files::wrapping::Asked;
 use language::Refusal;
@@ -189,6 +190,15 @@ fn answer<'a, F: Files, O: Sink, E: Sink>(
         } => print(
             out,
             check_text(alloc, libraries, file, profile, explain, files),
+        ),
+        Request::CheckAll {
+            libraries,
+            file,
+            profile,
+            explain,
+        } => print(
+            out,
+            check_all(alloc, libraries, file, profile, explain, files),
         ),
         Request::Build {
             libraries,

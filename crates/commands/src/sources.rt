@@ -1,13 +1,14 @@
 // Several files that are read as one source: libraries, and then a file, with a line feed between each two.
 
-ghost use Rattle.std.specs.Prelude.{◌≡◌, ℕ, ◌<◌, List, Some, map, length, get_or, IsTrue, IfOk, IfErr, OnOk};
+ghost use Rattle.std.specs.Prelude.{◌≡◌, ℕ, ◌<◌, List, Some, map, length, get_or, true, IsTrue, IfOk, IfErr, OnOk};
 ghost use Rattle.std.specs.Option.{option_map};
 ghost use Rattle.std.specs.String.{string_bytes};
 ghost use Rattle.commands.specs.Failures.{IsReadBy};
 ghost use Rattle.commands.specs.Sources.{IsAtLine, IsToldIn, NoSources, NoTextBelow, standing};
 ghost use Rattle.commands.specs.Below.{numbered_of, placed};
 ghost use Rattle.commands.specs.Sources.{IsReadFrom, joined, LibraryText, line_at, lines_in, numbered, source_at};
-ghost use Rattle.commands.specs.Judged.{IsExplainedIn, TellsIn};
+ghost use Rattle.commands.specs.Judged.{IsExplainedIn, IsToldBy, TellsIn};
+ghost use Rattle.commands.specs.Unread.{IsOutOfMemory};
 
 use crate::fault::{Fault, FileFault};
 use crate::files::Files;
@@ -91,7 +92,28 @@ fn explained_in<'a>(library: Option<&'a str>, refusal: Refusal, lines: String) -
 }
 
 /// The fault of a joined text that is refused, at its place in the library or the file where it stands, with the lines
-/// that explain it where they are asked for; these count the lines of the joined text.
+/// that explain it where they are asked for; these count the lines of the joined text. Only memory fails.
+pub fn told_by<'a>(
+    alloc: Global,
+    text: &str,
+    libraries: &[Library<'a>],
+    refusal: Refusal,
+    explain: bool,
+) -> Result<Fault<'a>, Fault<'a>>
+    ensures told { IfOk result (IsToldBy text.now (numbered_of libraries.now) refusal explain) }
+    ensures memory { IfErr result (λ fault. (explain ≡ true) × IsOutOfMemory fault) }
+{
+    let (library, told) = standing(libraries, refusal);
+    if !explain {
+        return Ok(told_in(library, told));
+    }
+    match explain_refusal(alloc, text, refusal) {
+        Ok(lines) => Ok(explained_in(library, told, lines)),
+        Err(fault) => Err(Fault::Text(fault)),
+    }
+}
+
+/// The same, or that there is no memory for it.
 pub fn refused_in<'a>(
     alloc: Global,
     text: &str,
@@ -101,13 +123,9 @@ pub fn refused_in<'a>(
 ) -> Fault<'a>
     ensures { TellsIn text.now (numbered_of libraries.now) refusal explain result }
 {
-    let (library, told) = standing(libraries, refusal);
-    if !explain {
-        return told_in(library, told);
-    }
-    match explain_refusal(alloc, text, refusal) {
-        Ok(lines) => explained_in(library, told, lines),
-        Err(fault) => Fault::Text(fault),
+    match told_by(alloc, text, libraries, refusal, explain) {
+        Ok(fault) => fault,
+        Err(fault) => fault,
     }
 }
 

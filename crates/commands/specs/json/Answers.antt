@@ -1,13 +1,16 @@
 -- The lines of JSON that answer requests which are done.
-use Rattle.std.specs.Prelude.{◌≡◌, ℕ, List, map, codes}
+use Rattle.std.specs.Prelude.{◌≡◌, ℕ, List, [], ◌∷◌, map, codes}
 use Rattle.commands.specs.Contents.{Contents}
 use Rattle.commands.specs.Judged.{IsAccepted}
 use Rattle.commands.specs.Requests.{Answers}
+use Rattle.commands.specs.Violations.{listing_status, ListsSource}
 use Rattle.commands.specs.declared.command_line.words.Request.{Request}
 use Rattle.commands.specs.declared.command_line.words.Request.TheVariants as requests
 use Rattle.commands.specs.declared.json.subject.JsonCommand.{JsonCommand}
 use Rattle.commands.specs.declared.json.subject.JsonCommand.TheVariants as commands
-use Rattle.commands.specs.json.Faults.{begun}
+use Rattle.commands.specs.declared.fault.Fault.{Fault}
+use Rattle.commands.specs.declared.json.subject.Subject.{Subject}
+use Rattle.commands.specs.json.Faults.{begun, lines_of_faults}
 use Rattle.json_lines.specs.Lines.{line_of, lines_data}
 use Rattle.serde_json.specs.Data.{Members, put, string}
 
@@ -33,11 +36,20 @@ abbrev pub AnswersByLines : JsonCommand → Request → Contents → List ℕ �
 AnswersByLines command request files line status =
     (text : List ℕ) × Answers request files text status × (line ≡ line_of (lines_members command status text))
 
--- the line that answers a request, and the exit status, by what files hold
+-- a line for each violation; none, and the source is accepted
+abbrev pub listed_in_json : Subject → List Fault → List ℕ
+listed_in_json subject [] = line_of accepted_members
+listed_in_json subject (fault ∷ others) = lines_of_faults subject (fault ∷ others)
+
+-- the line that answers a request, or of all violations their lines, and the exit status, by what files hold
 abbrev pub AnswersInJson : Request → Contents → List ℕ → ℕ → Type 0
 AnswersInJson (requests.Check libraries file profile explain) files line status =
     IsAccepted profile files (map (λ path. path.now) libraries.now) file.now × (line ≡ line_of accepted_members)
     × (status ≡ 0)
+AnswersInJson (requests.CheckAll libraries file profile explain) files line status =
+    (found : List Fault) × ListsSource explain profile files (map (λ path. path.now) libraries.now) file.now found
+    × (line ≡ listed_in_json (record { command = commands.Check; file = file; list = file }) found)
+    × (status ≡ listing_status found)
 AnswersInJson (requests.Build libraries file image options) files line status =
     (line ≡ line_of (image_written image.now)) × (status ≡ 0)
 AnswersInJson (requests.Function libraries file assembler header options) files line status =

@@ -1,4 +1,5 @@
--- Requests that are answered in JSON: by one line on standard output, whether they are done or not.
+-- Requests that are answered in JSON: by one line on standard output, whether they are done or not; or by a line for
+-- each violation.
 use Rattle.std.specs.Prelude.{◌≡◌, ◌⊎◌, ℕ, List, Result, Ok, Err}
 use Rattle.commands.specs.Answered.{IsCounted}
 use Rattle.commands.specs.Below.{Collected, HasLines, IsPutInPart, IsPutWhole, Reaches}
@@ -64,6 +65,9 @@ PerformsAs formats.Text request = Performs request
 PerformsAs formats.Json (requests.Check libraries file profile explain) =
     PerformsInJson (record { command = commands.Check; file = file; list = file })
     (requests.Check libraries file profile explain)
+PerformsAs formats.Json (requests.CheckAll libraries file profile explain) =
+    PerformsInJson (record { command = commands.Check; file = file; list = file })
+    (requests.CheckAll libraries file profile explain)
 PerformsAs formats.Json (requests.Build libraries file image options) =
     PerformsInJson (record { command = commands.Build; file = file; list = file })
     (requests.Build libraries file image options)

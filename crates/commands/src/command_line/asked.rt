@@ -151,11 +151,23 @@ fn check<'a>(given: &'a ArgMatches<'_>) -> Request<'a>
     ensures none { arguments_of result ≡ None }
     ensures apart { WritesNoneItReads result }
 {
+    let libraries = texts_of(given, "with");
+    let file = text_of(given, "FILE");
+    let profile = profile_of(given);
+    let explain = given.get_flag("explain");
+    if given.get_flag("all") {
+        return Request::CheckAll {
+            libraries,
+            file,
+            profile,
+            explain,
+        };
+    }
     Request::Check {
-        libraries: texts_of(given, "with"),
-        file: text_of(given, "FILE"),
-        profile: profile_of(given),
-        explain: given.get_flag("explain"),
+        libraries,
+        file,
+        profile,
+        explain,
     }
 }
 

@@ -43,6 +43,9 @@ const ARGUMENTS: &str =
                          numbers separated by `,` without spaces";
 
 /// What `--explain` does where a source is refused.
+const ALL: &str =
+    "Prints all that the pass finds that refuses the source, in order of place, on standard output";
+
 const EXPLAIN: &str =
     "If the source is refused, also shows the line of the error, and says what the rule is, what usually violates \
                        it and what to do";
@@ -90,6 +93,7 @@ pub(crate) static COMMANDS: [CommandRow; 15] = [
             LIBRARIES,
             CommandWord::Profile,
             CommandWord::Format(FORMAT),
+            CommandWord::Flag("all", ALL),
             CommandWord::Flag("explain", EXPLAIN),
         ],
     },

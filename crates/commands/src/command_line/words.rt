@@ -24,6 +24,13 @@ pub enum Request<'a> {
         profile: Profile,
         explain: bool,
     },
+    /// The same, with all that the pass finds that refuses the source.
+    CheckAll {
+        libraries: &'a [&'a str],
+        file: &'a str,
+        profile: Profile,
+        explain: bool,
+    },
     Build {
         libraries: &'a [&'a str],
         file: &'a str,

@@ -1,13 +1,16 @@
 // Answers as lines of JSON.
 
 ghost use Rattle.std.specs.Prelude.{◌≡◌, ◌≤◌, IfOk};
+ghost use Rattle.commands.specs.Violations.{listing_status};
 ghost use Rattle.commands.specs.json.Answers.{accepted_members, function_written, image_written, lines_members};
+ghost use Rattle.commands.specs.json.Answers.{listed_in_json};
 ghost use Rattle.json_lines.specs.Lines.{line_of};
 ghost use Rattle.json_lines.specs.Objects.{members_in};
 
-use crate::answer::{Answer, DONE};
-use crate::json::faults::begin;
-use crate::json::subject::JsonCommand;
+use crate::answer::{Answer, DONE, REFUSED};
+use crate::fault::Fault;
+use crate::json::faults::{begin, lines_of_faults};
+use crate::json::subject::{JsonCommand, Subject};
 use json_lines::JsonObject;
 use std::alloc::{AllocError, Global};
 
@@ -28,6 +31,25 @@ pub fn accepted(alloc: Global) -> Result<Answer, AllocError>
 {
     let object = begin(alloc, JsonCommand::Check, DONE, "accepted")?;
     answer_of(object, DONE)
+}
+
+/// A source violates so much: a line for each violation; none, and it is accepted.
+pub fn listed(
+    alloc: Global,
+    subject: Subject<'_>,
+    found: &[Fault<'_>],
+) -> Result<Answer, AllocError>
+    ensures text { IfOk result (λ answer. answer.text.items ≡ listed_in_json subject.entry found.now) }
+    ensures status { IfOk result (λ answer. answer.status ≡ listing_status found.now) }
+{
+    if found.is_empty() {
+        return accepted(alloc);
+    }
+    let text = lines_of_faults(alloc, subject, found)?;
+    Ok(Answer {
+        text,
+        status: REFUSED,
+    })
 }
 
 /// An image is written.

@@ -9,6 +9,7 @@ ghost use Rattle.commands.specs.json.Faults.{refused, refused_in, run_members, t
 ghost use Rattle.json_lines.specs.Lines.{line_of};
 ghost use Rattle.json_lines.specs.Objects.{members_in};
 
+use crate::answer::REFUSED;
 use crate::fault::{Fault, FileFault};
 use crate::json::subject::{JsonCommand, Subject};
 use hepurita::RunFault;
@@ -21,10 +22,7 @@ use language::{Place, Refusal, Rule};
 use source_eval::EvalFault;
 use std::alloc::{AllocError, Global};
 
-/// The exit statuses of what is refused, of what failed, of a want of memory and of a run that stopped otherwise than
-/// by ECALL.
-const REFUSED: u8 = 1;
-
+/// The exit statuses of what failed, of a want of memory and of a run that stopped otherwise than by ECALL.
 const FAILED: u8 = 3;
 
 const NO_MEMORY: u8 = 4;

@@ -17,13 +17,14 @@ use crate::fault::{Fault, FileFault};
 use crate::files::Files;
 use crate::function_files::write_function;
 use crate::images::pair_image;
-use crate::json::answers::{accepted, function_written, image_written, in_lines};
+use crate::json::answers::{accepted, function_written, image_written, in_lines, listed};
 use crate::json::faults::line_of_fault;
 use crate::json::subject::{JsonCommand, Subject};
 use crate::measuring::measure_file;
 use crate::performing::{STANDARD_OUTPUT, perform_in_text, report};
 use crate::texts::{build_image, check_text};
 use crate::trying::try_file;
+use crate::violations::told_violations;
 use language::Profile;
 use std::alloc::{AllocError, Global};
 use streams::{Sink, put_all};
@@ -57,6 +58,21 @@ pub fn perform_in_json<F: Files, O: Sink, E: Sink>(
             explain,
         } => {
             let given = check_in_json(alloc, libraries, file, profile, explain, files);
+            tell(
+                alloc,
+                Subject::of(JsonCommand::Check, file),
+                given,
+                out,
+                err,
+            )
+        }
+        Request::CheckAll {
+            libraries,
+            file,
+            profile,
+            explain,
+        } => {
+            let given = all_in_json(alloc, libraries, file, profile, explain, files);
             tell(
                 alloc,
                 Subject::of(JsonCommand::Check, file),
@@ -201,6 +217,25 @@ fn check_in_json<'a, F: Files>(
 {
     check_text(alloc, libraries, file, profile, explain, files)?;
     Ok(accepted(alloc)?)
+}
+
+/// Judges a source, with all that it violates.
+fn all_in_json<'a, F: Files>(
+    alloc: Global,
+    libraries: &'a [&'a str],
+    file: &'a str,
+    profile: Profile,
+    explain: bool,
+    files: &mut F,
+) -> Result<Answer, Fault<'a>>
+    ensures gives { IsTrue F.TELLS
+        → GivesInJson (Request.CheckAll libraries.entry file.entry profile explain) (F.store files.old).contents
+        (F.store files.new).contents result }
+    ensures counted { IsCounted result (F.store files.old).failures (F.store files.new).failures }
+{
+    let found = told_violations(alloc, libraries, file, profile, explain, files)?;
+    let subject = Subject::of(JsonCommand::Check, file);
+    Ok(listed(alloc, subject, found.as_slice())?)
 }
 
 /// Compiles a source to an image. The line is made before that, so that no image is written where there is no memory

@@ -1,6 +1,7 @@
-use Rattle.std.proofs.Common.{List, ℕ, sym, subst}
+use Rattle.std.proofs.Common.{List, ℕ, refl, sym, subst}
 use Rattle.std.specs.String.{string_bytes}
 use Rattle.commands.specs.Below.{numbered_of, SaysCosts}
+use Rattle.commands.proofs.Counting.{tells_in_calm}
 use Rattle.commands.proofs.SourceLemmas.{refused_as_lent}
 use Rattle.commands.proofs.measuring.joined_costs.Goals as goal
 use Rattle.image_reports.specs.declared.source_places.Library.{Library}
@@ -24,3 +25,7 @@ pub returns-in-Err-clause-refused : goal.returns-in-Err-clause-refused
 returns-in-Err-clause-refused c =
     refused_as_lent c.as_str-text.ensures.value c.as_slice-read.ensures.value c.in-Err.ensures.refused
     c.refused_in.ensures
+
+pub returns-in-Err-clause-read : goal.returns-in-Err-clause-read
+returns-in-Err-clause-read c files =
+    tells_in_calm _ _ _ _ c.refused_in.result c.refused_in.ensures refl

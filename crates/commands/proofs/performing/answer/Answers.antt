@@ -12,6 +12,14 @@ returns-in-Check-clause-does g c = λ files out.
 pub returns-in-Check-clause-ended : goal.returns-in-Check-clause-ended
 returns-in-Check-clause-ended g c = ends_read _ _ c.check_text.ensures.read c.print.ensures
 
+pub returns-in-CheckAll-clause-does : goal.returns-in-CheckAll-clause-does
+returns-in-CheckAll-clause-does g c = λ files out.
+    does_read _ _ c.in-CheckAll.is (c.check_all.ensures.finds files) c.check_all.ensures.read out
+    c.print-in-CheckAll.ensures
+
+pub returns-in-CheckAll-clause-ended : goal.returns-in-CheckAll-clause-ended
+returns-in-CheckAll-clause-ended g c = ends_read _ _ c.check_all.ensures.read c.print-in-CheckAll.ensures
+
 pub returns-in-Stat-clause-does : goal.returns-in-Stat-clause-does
 returns-in-Stat-clause-does g c = λ files out.
     does_read _ _ c.in-Stat.is (c.measure_file.ensures.finds files) c.measure_file.ensures.read out

@@ -15,12 +15,25 @@ returns-in-Check-clause-performed g c = λ files out err.
     (c.check_in_json-given.ensures.gives files) c.check_in_json-given.ensures.counted
     (λ files err. refl) (c.tell.ensures.told out err))
 
+pub returns-in-CheckAll-clause-performed : goal.returns-in-CheckAll-clause-performed
+returns-in-CheckAll-clause-performed g c = λ files out err.
+    rw c.in-CheckAll.is (performed_quietly c.of-in-CheckAll.ensures
+    (c.all_in_json-given.ensures.gives files) c.all_in_json-given.ensures.counted
+    (λ files err. refl) (c.tell-in-CheckAll.ensures.told out err))
+
 pub returns-in-Check-clause-calm : goal.returns-in-Check-clause-calm
 returns-in-Check-clause-calm g c = calm_of c.check_in_json-given.result c.tell.ensures.counted
+
+pub returns-in-CheckAll-clause-calm : goal.returns-in-CheckAll-clause-calm
+returns-in-CheckAll-clause-calm g c = calm_of c.all_in_json-given.result c.tell-in-CheckAll.ensures.counted
 
 pub returns-in-Check-clause-counted : goal.returns-in-Check-clause-counted
 returns-in-Check-clause-counted g c =
     ends_line c.check_in_json-given.result c.check_in_json-given.ensures.counted c.tell.ensures.counted
+
+pub returns-in-CheckAll-clause-counted : goal.returns-in-CheckAll-clause-counted
+returns-in-CheckAll-clause-counted g c =
+    ends_line c.all_in_json-given.result c.all_in_json-given.ensures.counted c.tell-in-CheckAll.ensures.counted
 
 pub returns-in-Build-clause-performed : goal.returns-in-Build-clause-performed
 returns-in-Build-clause-performed g c = λ files out err.
