@@ -4,11 +4,12 @@
 --   have failed.
 -- Read from files: FileTexts a source, Sources one of several, Images an image, Executables an executable,
 --   ImageArguments and Words arguments; ImageRefusals, FunctionRunRefusals, Unread: why not.
--- What a command prints: Judged of check, Violations of check --all, Costs of stat, Meanings of eval, Runs and OutcomeText of run, Leaks of leak,
---   Pairs of pair, Certificates of certify, Pictures of picture, Harts and HartsText of harts, Vectors of vectors,
---   FunctionCertificates of elf certify, FunctionLeaks of elf leak, FunctionWitnesses of elf witness; Stops has exit
---   statuses, Progress the lines of progress, StepCounts that of steps. What it writes: Written one file, TwoFiles two,
---   FunctionFiles those of function, WrappedCode the image of wrap.
+-- What a command prints: Judged of check, Violations of check --all, Costs of stat, Meanings of eval, Runs and
+--   OutcomeText of run, Leaks of leak, Pairs of pair, Certificates of certify, Pictures of picture, Harts and
+--   HartsText of harts, Vectors of vectors, FunctionCertificates of elf certify, FunctionLeaks of elf leak,
+--   FunctionWitnesses of elf witness; Stops has exit statuses, Progress the lines of progress, StepCounts that of
+--   steps. What it writes: Written one file, TwoFiles two, FunctionFiles those of function, WrappedCode the image of
+--   wrap.
 -- command_line: the words of a command line. json: answers in JSON, Faults those of what is refused, Performed what
 --   comes of a request.
 pub mod command_line

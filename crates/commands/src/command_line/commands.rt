@@ -44,7 +44,7 @@ const ARGUMENTS: &str =
 
 /// What `--explain` does where a source is refused.
 const ALL: &str =
-    "Prints all that the pass finds that refuses the source, in order of place, on standard output";
+    "Prints all violations that the pass finds that refuses the source, in order of place, on standard output";
 
 const EXPLAIN: &str =
     "If the source is refused, also shows the line of the error, and says what the rule is, what usually violates \
