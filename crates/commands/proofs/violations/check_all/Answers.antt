@@ -1,4 +1,4 @@
-use Rattle.std.proofs.Common.{◌∙◌, ℕ, List, ap, map, refl, rules, subst, sym}
+use Rattle.std.proofs.Common.{◌∙◌, ℕ, Global, List, Vec, ap, map, refl, rules, subst, sym}
 use Rattle.commands.specs.Answered.{answered}
 use Rattle.commands.specs.Sources.{no_memory}
 use Rattle.commands.specs.Violations.{fault_lines, SaysViolations}
@@ -25,7 +25,8 @@ returns-then-is_empty-clause-finds g c = λ tells.
 
 pub returns-clause-finds : goal.returns-clause-finds
 returns-clause-finds g c = λ tells.
-    let lines = c.into_bytes.ensures.value ∙ c.in_ok-lines.ensures ∙ ap fault_lines c.as_slice.ensures.value in
+    let lines = ap (λ (v : Vec ℕ Global). v.items) c.into_bytes.ensures.value ∙ c.in_ok-lines.ensures
+    ∙ ap fault_lines c.as_slice.ensures.value in
     answered
     (subst
     (λ (text : List ℕ).
