@@ -4,7 +4,7 @@ use Rattle.std.proofs.Common.{nat_cmp, Global, Ok, Err, OnOk, OnErr, Result, Str
 use Rattle.std.proofs.lemmas.Bool.{or_parts}
 use Rattle.std.specs.Cmp.Lexicographic.{slice_cmp}
 use Rattle.std.specs.Ordering.{match_ordering}
-use Rattle.serde_json.specs.Data.{Data, Members, no_members, member, put, string, number, unsigned}
+use Rattle.serde_json.specs.Data.{Data, Members, no_members, member, put, string}
 use Rattle.serde_json.specs.View.{items_of, members_view}
 use Rattle.serde_json.specs.Written.{has_float, items_have_float, members_have_float}
 use Rattle.serde_json.specs.declared.value.Value.{Value}
@@ -26,11 +26,6 @@ put_without_float key d (member l e ms) plain others =
 pub texts_without_float : (texts : List (List ℕ)) → items_have_float (items_of (map string texts)) ≡ false
 texts_without_float [] = refl
 texts_without_float (text ∷ texts) = texts_without_float texts
-
-pub numbers_without_float : (numbers : List ℕ)
-    → items_have_float (items_of (map (λ n. number (unsigned n)) numbers)) ≡ false
-numbers_without_float [] = refl
-numbers_without_float (n ∷ numbers) = numbers_without_float numbers
 
 -- an object whose member was set, or was not
 pub still_without_float : {T E : Type 0} (before after : List (String Global × Value)) (key : List ℕ) (d : Data)

@@ -2,7 +2,7 @@
 use Rattle.std.specs.Prelude.{ℕ, List, [], ◌∷◌, ◌++◌, map}
 use Rattle.std.specs.Str.Lines.{lines}
 use Rattle.std.specs.Str.Lossy.{utf8_lossy}
-use Rattle.serde_json.specs.Data.{array, Data, Members, number, object, string, unsigned}
+use Rattle.serde_json.specs.Data.{array, Data, Members, object, string}
 use Rattle.serde_json.specs.View.{items_of}
 use Rattle.serde_json.specs.Written.{compact_text}
 
@@ -13,10 +13,6 @@ texts_data texts = array (items_of (map string texts))
 -- the lines of a text; what is no UTF-8 is replaced
 abbrev pub lines_data : List ℕ → Data
 lines_data text = texts_data (lines (utf8_lossy text))
-
--- numbers in their order
-abbrev pub numbers_data : List ℕ → Data
-numbers_data numbers = array (items_of (map (λ n. number (unsigned n)) numbers))
 
 -- the object with these members without a blank, and a line feed
 abbrev pub line_of : Members → List ℕ

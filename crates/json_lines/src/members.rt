@@ -1,10 +1,10 @@
 // What the members of an object are, and its line.
 
 ghost use Rattle.std.specs.Prelude.{◌≡◌, false, map, IfOk, OnOk};
-ghost use Rattle.serde_json.specs.Data.{no_members, null, number, object, put, string, unsigned};
+ghost use Rattle.serde_json.specs.Data.{no_members, number, put, string, unsigned};
 ghost use Rattle.serde_json.specs.View.{view};
 ghost use Rattle.serde_json.specs.Written.{has_float};
-ghost use Rattle.json_lines.specs.Lines.{line_of, lines_data, numbers_data, texts_data};
+ghost use Rattle.json_lines.specs.Lines.{line_of, lines_data, texts_data};
 ghost use Rattle.json_lines.specs.Objects.{members_in};
 
 use crate::object::JsonObject;
@@ -37,7 +37,7 @@ impl JsonObject {
     }
 
     /// The same, and it is texts in their order.
-    pub fn set_texts(&mut self, name: &str, texts: &[&str]) -> Result<(), AllocError>
+    fn set_texts(&mut self, name: &str, texts: &[&str]) -> Result<(), AllocError>
         ensures { OnOk result (members_in self.new
             ≡ put name.now (texts_data (map (λ text. text.now) texts.now)) (members_in self.old)) }
     {
@@ -57,31 +57,6 @@ impl JsonObject {
         let text = String::from_utf8_lossy(alloc, text)?;
         let lines: Vec<&str> = text.lines().collect(alloc)?;
         self.set_texts(name, lines.as_slice())
-    }
-
-    /// The same, and it is numbers in their order.
-    pub fn set_numbers(&mut self, name: &str, numbers: &[u32]) -> Result<(), AllocError>
-        ensures { OnOk result (members_in self.new ≡ put name.now (numbers_data numbers.now) (members_in self.old)) }
-    {
-        let mut items = Vec::new(self.alloc);
-        for word in numbers {
-            items.push(Value::from(*word))?;
-        }
-        self.set(name, Value::from(items))
-    }
-
-    /// The same, and it is an object.
-    pub fn set_object(&mut self, name: &str, inner: JsonObject) -> Result<(), AllocError>
-        ensures { OnOk result (members_in self.new ≡ put name.now (object (members_in inner)) (members_in self.old)) }
-    {
-        self.set(name, Value::Object(inner.members))
-    }
-
-    /// The same, and it is null.
-    pub fn set_null(&mut self, name: &str) -> Result<(), AllocError>
-        ensures { OnOk result (members_in self.new ≡ put name.now null (members_in self.old)) }
-    {
-        self.set(name, Value::Null)
     }
 
     /// The same, and it is this.
