@@ -74,6 +74,7 @@ RECURSIONS = [
     ("branch_removal/src/type_checks.rt", "types", "nothing is added: types are compared"),
     ("codegen/src/statements.rt", "statements", "the statements of straight code, each of which is followed once"),
     ("inline/src/numbering.rt", "numbering", "the nodes of the inlined body, which are counted before: 6,000 at most"),
+    ("optimisation/src/constants/known.rt", "forgetting", "nothing is added: what is known of a variable is taken away"),
     ("optimisation/src/constants/statements.rt", "simplification", "the statements, and the iterations that are unrolled"),
     ("optimisation/src/element_words/narrowing.rt", "narrowing", "nothing is added: an entry an array is there before"),
     ("optimisation/src/element_words/statements.rt", "splitting", "the statements of straight code, each of which is followed once"),
@@ -97,8 +98,8 @@ RANGES = [
 # What makes memory grow.
 GROWS = re.compile(
     r"\b(?:Box|Rc|Arc)::\w*new\w*\(|\b\w*with_capacity\w*\(|\b(?:try_)?alloc(?:ate\w*|_zeroed)\(|\balloc::alloc"
-    r"|\.(?:push|insert|extend|resize|reserve|append)\w*\(|\.(?:collect|to_vec|to_string|to_owned|join|concat|repeat|arg)(?:::<[^;]*?>)?\("
-    r"|\.clone\(\)\?|\bfrom_(?:str|slice|iter|elem)\(|\b(?:vec|format|write|writeln)!"
+    r"|\.(?:push|insert|extend|resize|reserve|append|sort_by)\w*\(|\.(?:collect|to_vec|to_string|to_owned|join|concat|repeat|arg)(?:::<[^;]*?>)?\("
+    r"|\.clone\(\)\?|\b(?:try_)?from_(?:str|slice|iter|elem)\(|\bput\(&mut |\b(?:vec|format|write|writeln)!"
 )
 COLUMNS = 16
 ELEMENTS = 4096
