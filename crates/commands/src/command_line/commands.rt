@@ -42,10 +42,11 @@ const ARGUMENTS: &str =
     "One for each parameter: a number (decimal, or hexadecimal after 0x), for a bool 0 or 1, for an array its \
                          numbers separated by `,` without spaces";
 
-/// What `--explain` does where a source is refused.
+/// What `--all` does.
 const ALL: &str =
     "Prints all violations that the pass finds that refuses the source, in order of place, on standard output";
 
+/// What `--explain` does where a source is refused.
 const EXPLAIN: &str =
     "If the source is refused, also shows the line of the error, and says what the rule is, what usually violates \
                        it and what to do";
