@@ -92,7 +92,7 @@ RECURSIONS = [
 
 # Numbers that are iterated over elsewhere: file, the line's code, and why they may be.
 RANGES = [
-    ("commands/src/command_line/grammar.rt", ".num_args(0..)", "how many words a command may have, which are given"),
+    ("command_line/src/grammar.rt", ".num_args(0..)", "how many words a command may have, which are given"),
 ]
 
 # What makes memory grow.

@@ -11,7 +11,7 @@ use Rattle.commands.specs.Progress.{RequestTells}
 use Rattle.commands.specs.Requests.{Answers, Fails, IsDone, Leaves, refused, Refuses, unprinted}
 use Rattle.commands.specs.Unread.{IsOutOfMemory}
 use Rattle.commands.specs.declared.answer.Answer.{Answer}
-use Rattle.commands.specs.declared.command_line.words.Request.{Request}
+use Rattle.command_line.specs.declared.words.Request.{Request}
 use Rattle.commands.specs.declared.fault.Fault.{Fault}
 use Rattle.commands.proofs.Counting.{counted_by, kept_by, memory_calm}
 

@@ -13,9 +13,9 @@ use Rattle.commands.specs.FunctionRunRefusals.{RefusesFunctionRun}
 use Rattle.commands.specs.Leaks.{IsOutputFault}
 use Rattle.commands.specs.Requests.{Fails, IsDone, refused, unprinted}
 use Rattle.commands.specs.Stops.{function_stop_status}
-use Rattle.commands.specs.declared.command_line.options.ObservedOptions.{ObservedOptions}
-use Rattle.commands.specs.declared.command_line.words.Request.{Request}
-use Rattle.commands.specs.declared.command_line.words.Request.TheVariants as requests
+use Rattle.command_line.specs.declared.options.ObservedOptions.{ObservedOptions}
+use Rattle.command_line.specs.declared.words.Request.{Request}
+use Rattle.command_line.specs.declared.words.Request.TheVariants as requests
 use Rattle.commands.specs.declared.fault.Fault.{Fault}
 use Rattle.commands.proofs.Counting.{counted_by, kept_by}
 use Rattle.elf_reports.specs.Leaked as leaked

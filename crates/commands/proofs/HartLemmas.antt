@@ -13,7 +13,7 @@ use Rattle.commands.specs.Below.{PlannedHart, ran, refused, Refuses, RunFault, R
 use Rattle.commands.specs.Answered.{answered, RequestGives, not_answered}
 use Rattle.commands.specs.Contents.{Contents}
 use Rattle.commands.specs.declared.answer.Answer.{Answer}
-use Rattle.commands.specs.declared.command_line.words.Request.TheVariants as requests
+use Rattle.command_line.specs.declared.words.Request.TheVariants as requests
 use Rattle.commands.specs.Harts.{IsJobOf, SaysPlan, RefusesHart, RefusesJobs, by_hart, RefusesPlan, by_line, by_run}
 use Rattle.commands.specs.Harts.{by_plan, jobs_want_memory, no_arguments, no_image}
 use Rattle.commands.specs.Harts.{plan_wants_memory}

@@ -13,9 +13,9 @@ use Rattle.commands.specs.Requests.{Answers, EndsByStatus, calm, output_failed, 
 use Rattle.commands.specs.Requests.{Performs, Refuses}
 use Rattle.commands.specs.Sources.{no_memory}
 use Rattle.commands.specs.Unread.{IsOutOfMemory, out_of_memory}
-use Rattle.commands.specs.declared.command_line.options.Format.TheVariants as formats
+use Rattle.command_line.specs.declared.options.Format.TheVariants as formats
 use Rattle.commands.specs.declared.answer.Answer.{Answer}
-use Rattle.commands.specs.declared.command_line.words.Request.{Request}
+use Rattle.command_line.specs.declared.words.Request.{Request}
 use Rattle.commands.specs.declared.fault.Fault.{Fault}
 use Rattle.commands.specs.declared.fault.Fault.TheVariants.{Text, Explained, Image, Run, Eval, Plan, Harts, Vectors}
 use Rattle.commands.specs.declared.fault.Fault.TheVariants.{Code, Name, Elf, Unmet, File, InLibrary, ExplainedInLibrary}

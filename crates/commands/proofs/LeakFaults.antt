@@ -9,7 +9,7 @@ use Rattle.commands.specs.Leaks.{SaysLeak, RefusesLeak, IsOutputFault, IsFaultOf
 use Rattle.commands.specs.Requests.{Fails, IsDone, refused, unprinted}
 use Rattle.commands.specs.Stops.{status_of}
 use Rattle.commands.specs.Words.{AreSpelled}
-use Rattle.commands.specs.declared.command_line.words.Request.TheVariants as requests
+use Rattle.command_line.specs.declared.words.Request.TheVariants as requests
 use Rattle.commands.specs.declared.fault.Fault.{Fault}
 use Rattle.commands.proofs.Counting.{counted_by, kept_by, not_output}
 use Rattle.listing.specs.declared.fault.LeakFault.TheVariants.{Argument, Memory}

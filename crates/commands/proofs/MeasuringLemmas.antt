@@ -13,7 +13,7 @@ use Rattle.commands.specs.Judged.{IsRefusedText}
 use Rattle.commands.specs.Sources.{by_file, IsReadFrom, joined, NoSources, not_utf8_below, too_long_below, unread_below}
 use Rattle.commands.specs.Unread.{out_of_memory}
 use Rattle.commands.specs.declared.answer.Answer.{Answer}
-use Rattle.commands.specs.declared.command_line.words.Request.TheVariants as Request
+use Rattle.command_line.specs.declared.words.Request.TheVariants as Request
 use Rattle.commands.specs.declared.fault.Fault.{Fault}
 use Rattle.commands.specs.declared.fault.Fault.TheVariants.{Image}
 use Rattle.commands.proofs.ImageLemmas.{all_read, image_held}

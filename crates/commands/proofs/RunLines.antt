@@ -5,7 +5,7 @@ use Rattle.commands.specs.Contents.{Contents}
 use Rattle.commands.specs.Images.{HoldsImage}
 use Rattle.commands.specs.Progress.{FileRunTells, RunTells}
 use Rattle.commands.specs.Words.{AreSpelled}
-use Rattle.commands.specs.declared.command_line.options.StepOptions.{StepOptions}
+use Rattle.command_line.specs.declared.options.StepOptions.{StepOptions}
 use Rattle.commands.proofs.StepLemmas.{run_tells_reaches}
 
 module _ (Has : Counting) (before after : Collected) {files : Contents} {path : List ℕ} {words : List (List ℕ)}

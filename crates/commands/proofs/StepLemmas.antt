@@ -7,7 +7,7 @@ use Rattle.commands.specs.Below.{halts, HasLines, IsPut, IsTold, Leads, loaded_a
 use Rattle.commands.specs.Below.{RunsWithin, State, Stop}
 use Rattle.commands.specs.Progress.{RunGoesOn, RunTells, Tells}
 use Rattle.commands.specs.StepCounts.{MakesSteps, RunMakes, steps_line, until_stop}
-use Rattle.commands.specs.declared.command_line.options.StepOptions.{StepOptions}
+use Rattle.command_line.specs.declared.options.StepOptions.{StepOptions}
 use Rattle.commands.proofs.ProgressLemmas.{told_of_image}
 use Rattle.run_reports.proofs.progress_lemmas.Told.{all_told, reaches}
 use Rattle.run_reports.specs.progress.Lines.{steps_a_line, WentOut}

@@ -6,7 +6,7 @@ use Rattle.commands.specs.Failures.{CountsFailures, failures_by, IsReadBy}
 use Rattle.commands.specs.Leaks.{IsOutputFault}
 use Rattle.commands.specs.Requests.{Answers, Fails, IsDone, Leaves, Refuses}
 use Rattle.commands.specs.declared.answer.Answer.{Answer}
-use Rattle.commands.specs.declared.command_line.words.Request.{Request}
+use Rattle.command_line.specs.declared.words.Request.{Request}
 use Rattle.commands.specs.declared.fault.Fault.{Fault}
 
 -- what comes of a request before its answer is printed, by what files hold before and after

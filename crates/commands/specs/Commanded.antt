@@ -5,9 +5,9 @@ use Rattle.commands.specs.Contents.{Store}
 use Rattle.commands.specs.Leaks.{IsOutputFault}
 use Rattle.commands.specs.Requests.{Reports}
 use Rattle.commands.specs.Unread.{IsOutOfMemory}
-use Rattle.commands.specs.command_line.Words.{IsAskedBy, WritesNoneItReads}
-use Rattle.commands.specs.declared.command_line.words.Request.{Request}
-use Rattle.commands.specs.declared.command_line.options.Format.{Format}
+use Rattle.command_line.specs.Words.{IsAskedBy, WritesNoneItReads}
+use Rattle.command_line.specs.declared.words.Request.{Request}
+use Rattle.command_line.specs.declared.options.Format.{Format}
 use Rattle.commands.specs.declared.fault.Fault.{Fault}
 use Rattle.commands.specs.json.Performed.{PerformsAs}
 use Rattle.commands.specs.Below.{Collected, IsPut, IsPutInPart, IsPutWhole}

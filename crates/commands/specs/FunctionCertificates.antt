@@ -10,7 +10,7 @@ use Rattle.commands.specs.Certificates.{shifts_seen}
 use Rattle.commands.specs.Contents.{Contents}
 use Rattle.commands.specs.Executables.{HoldsExecutable}
 use Rattle.commands.specs.Stops.{function_stop_status}
-use Rattle.commands.specs.declared.command_line.options.FunctionOptions.{FunctionOptions}
+use Rattle.command_line.specs.declared.options.FunctionOptions.{FunctionOptions}
 use Rattle.elf_runs.specs.declared.certifying.FunctionCertificate.TheVariants.{MayDiffer, Same}
 use Rattle.elf_runs.specs.declared.stops.FunctionStop.TheVariants.{Returned, Stopped}
 

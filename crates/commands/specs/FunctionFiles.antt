@@ -3,7 +3,7 @@ use Rattle.std.specs.Prelude.{Bool, ℕ, List}
 use Rattle.commands.specs.Contents.{Contents}
 use Rattle.commands.specs.Judged.{IsRefusedIn, TellsIn}
 use Rattle.commands.specs.Sources.{HoldsSources, joined, LibraryText, numbered}
-use Rattle.commands.specs.declared.command_line.options.LinkOptions.{LinkOptions}
+use Rattle.command_line.specs.declared.options.LinkOptions.{LinkOptions}
 use Rattle.commands.specs.declared.fault.Fault.{Fault}
 use Rattle.commands.specs.declared.fault.Fault.TheVariants.{Name}
 use Rattle.functions.specs.declared.function_text.fault.FunctionFault.{FunctionFault}

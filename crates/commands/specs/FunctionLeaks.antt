@@ -5,7 +5,7 @@ use Rattle.commands.specs.Below.{RunOptions}
 use Rattle.commands.specs.Contents.{Contents}
 use Rattle.commands.specs.Executables.{HoldsExecutable}
 use Rattle.commands.specs.Stops.{function_stop_status}
-use Rattle.commands.specs.declared.command_line.options.ObservedOptions.{ObservedOptions}
+use Rattle.command_line.specs.declared.options.ObservedOptions.{ObservedOptions}
 
 -- how runs are to be made one by one, as the options say
 abbrev pub observed_run : ObservedOptions → RunOptions

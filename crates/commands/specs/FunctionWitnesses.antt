@@ -7,7 +7,7 @@ use Rattle.commands.specs.Below.{RunOptions, Setting, Witness}
 use Rattle.commands.specs.Contents.{Contents}
 use Rattle.commands.specs.Executables.{HoldsExecutable, IsLineOrNothing}
 use Rattle.commands.specs.FunctionLeaks.{observed_run}
-use Rattle.commands.specs.declared.command_line.options.ObservedOptions.{ObservedOptions}
+use Rattle.command_line.specs.declared.options.ObservedOptions.{ObservedOptions}
 
 -- the words by which `elf leak` sets a secret, behind a blank
 abbrev pub setting_words : Setting → List ℕ

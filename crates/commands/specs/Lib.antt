@@ -10,9 +10,7 @@
 --   FunctionWitnesses of elf witness; Stops has exit statuses, Progress the lines of progress, StepCounts that of
 --   steps. What it writes: Written one file, TwoFiles two, FunctionFiles those of function, WrappedCode the image of
 --   wrap.
--- command_line: the words of a command line. json: answers in JSON, Faults those of what is refused, Performed what
---   comes of a request.
-pub mod command_line
+-- json: answers in JSON, Faults those of what is refused, Performed what comes of a request.
 pub mod json
 pub mod Contents
 pub mod Costs

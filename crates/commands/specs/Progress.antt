@@ -6,9 +6,9 @@ use Rattle.commands.specs.Below.{Arg, AskedRun, AskedWords, AsksFor, BothGoOn, c
 use Rattle.commands.specs.Below.{Counting, Executable, Fields}
 use Rattle.commands.specs.Below.{frame_base, GoesOn, image_program, IsTold, known_at_start, loaded_at, machine_program}
 use Rattle.commands.specs.Below.{params_of, RunOptions, Shifts}
-use Rattle.commands.specs.declared.command_line.options.StepOptions.{StepOptions}
-use Rattle.commands.specs.declared.command_line.words.Request.{Request}
-use Rattle.commands.specs.declared.command_line.words.Request.TheVariants as requests
+use Rattle.command_line.specs.declared.options.StepOptions.{StepOptions}
+use Rattle.command_line.specs.declared.words.Request.{Request}
+use Rattle.command_line.specs.declared.words.Request.TheVariants as requests
 use Rattle.commands.specs.Certificates.{shifts_seen}
 use Rattle.commands.specs.Contents.{Contents}
 use Rattle.commands.specs.Executables.{HoldsExecutable}

@@ -1,7 +1,7 @@
 -- What is asked for, done: what is printed, the exit status, and what files hold then.
 use Rattle.std.specs.Prelude.{◌≡◌, ◌⊎◌, ℕ, List, [], ◌++◌, map, codes}
-use Rattle.commands.specs.declared.command_line.words.Request.{Request}
-use Rattle.commands.specs.declared.command_line.words.Request.TheVariants as requests
+use Rattle.command_line.specs.declared.words.Request.{Request}
+use Rattle.command_line.specs.declared.words.Request.TheVariants as requests
 use Rattle.commands.specs.Certificates.{SaysCertificate, RefusesCertificate, shifts_seen}
 use Rattle.commands.specs.Contents.{Contents, Store}
 use Rattle.commands.specs.Costs.{SaysFileCosts, RefusesCosts}

@@ -11,11 +11,11 @@ ghost use Rattle.commands.specs.Certificates.{PrintsExplained, shifts_seen};
 ghost use Rattle.commands.specs.Progress.{FileCertificateTells};
 
 use crate::answer::{Answer, MAY_DIFFER};
-use crate::command_line::{CertifyOptions, Request};
 use crate::fault::Fault;
 use crate::files::Files;
 use crate::images::{image_with_params, status_of};
 use crate::telling::certificate_of;
+use command_line::{CertifyOptions, Request};
 use image::Image;
 use image_reports::certificate_explanations::explain_certificate;
 use image_reports::certificates::{Certificate, Shifts, read_given};

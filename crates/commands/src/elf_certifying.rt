@@ -12,12 +12,12 @@ ghost use Rattle.std.specs.Fmt.{decimal};
 
 use crate::answer::{Answer, MAY_DIFFER};
 use crate::certifying::shifts_seen;
-use crate::command_line::{FunctionOptions, Request};
 use crate::elf_listing::status_of_stop;
 use crate::executables::{executable_bytes, line_of_program};
 use crate::fault::Fault;
 use crate::files::Files;
 use crate::function_words::{asked_of, fault_of_start};
+use command_line::{FunctionOptions, Request};
 use elf::{Program, read};
 use elf_reports::{AskedWords, certify_function_telling, push_place};
 use elf_runs::{

@@ -7,13 +7,13 @@ ghost use Rattle.commands.specs.FunctionLeaks.{observed_run};
 ghost use Rattle.commands.specs.Stops.{function_stop_status};
 
 use crate::answer::{DONE, STOPPED};
-use crate::command_line::{ObservedOptions, Request};
 use crate::executables::executable_bytes;
 use crate::fault::{Fault, FileFault};
 use crate::files::Files;
 use crate::function_words::{asked_of, fault_of_start};
 use crate::performing::STANDARD_OUTPUT;
 use certified_runs::Shifts;
+use command_line::{ObservedOptions, Request};
 use elf::read;
 use elf_reports::{AskedWords, FunctionLeakFault, leak_function};
 use elf_runs::{FunctionStop, RunOptions};

@@ -10,12 +10,12 @@ ghost use Rattle.commands.specs.FunctionWitnesses.{setting_words, settings_words
 ghost use Rattle.elf_runs.specs.Needs.{IsTold};
 
 use crate::answer::Answer;
-use crate::command_line::{ObservedOptions, Request};
 use crate::elf_listing::observed_run;
 use crate::executables::{executable_bytes, line_of_program};
 use crate::fault::Fault;
 use crate::files::Files;
 use crate::function_words::{asked_of, fault_of_start};
+use command_line::{ObservedOptions, Request};
 use elf::{Program, read};
 use elf_reports::{AskedWords, push_place};
 use elf_runs::{Asked, RunOptions, Setting, StartFault, Witness, find_witness};

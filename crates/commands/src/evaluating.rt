@@ -5,11 +5,11 @@ ghost use Rattle.commands.specs.Answered.{Finds, IsRead};
 ghost use Rattle.commands.specs.Meanings.{evaluation_budget};
 
 use crate::answer::Answer;
-use crate::command_line::Request;
 use crate::fault::Fault;
 use crate::files::Files;
 use crate::outcome;
 use crate::sources::{joined_text, refused_in};
+use command_line::Request;
 use hepurita::{accepted_sources_are_evaluated, judge, read_args};
 use source_eval::eval;
 use std::alloc::Global;

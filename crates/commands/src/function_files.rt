@@ -8,11 +8,11 @@ ghost use Rattle.commands.specs.TwoFiles.{AreWritten, AreCutOff, WritesTwo, Fail
 ghost use Rattle.commands.specs.Written.{IsWriteFault};
 ghost use Rattle.commands.specs.Below.{numbered_of, one_more};
 
-use crate::command_line::LinkOptions;
 use crate::fault::Fault;
 use crate::files::Files;
 use crate::sources::{joined_text, refused_in};
 use crate::texts::write_file;
+use command_line::LinkOptions;
 use functions::function_text::{FunctionFault, Texts, texts_of};
 use image_reports::source_places::{Library, standing_place};
 use std::alloc::Global;

@@ -16,13 +16,13 @@ ghost use Rattle.commands.specs.Stops.{status_of};
 ghost use Rattle.commands.specs.Words.{AreSpelled, AreBothSpelled, IsFaultOfWords, fault_of_both};
 
 use crate::answer::{Answer, DONE, STOPPED};
-use crate::command_line::{PairOptions, Request, StepOptions};
 use crate::fault::{Fault, FileFault};
 use crate::files::Files;
 use crate::outcome;
 use crate::performing::STANDARD_OUTPUT;
 use crate::reading::bytes_of;
 use crate::telling::{outcome_of, pairing_of};
+use command_line::{PairOptions, Request, StepOptions};
 use hepurita::{RunFault, params, read_args};
 use image::{Image, LONGEST_IMAGE, read};
 use image_reports::pair_explanations::explain_difference;

@@ -1,12 +1,11 @@
 // The commands of `factc`, over files and streams that the caller hands in: they compile a text to an image or to a
 // function for C, work out what a text means, run an image, compare what an observer sees of two runs, and say whether
 // one run shows the same for all secrets. The exit status of each command is promised, and no status 0 where standard
-// output failed. The work is done by the calls of the libraries; the words are read by the module `command_line`.
+// output failed. The work is done by the calls of the libraries; the words are read by `command_line`.
 #![tactic(auto)]
 
 mod answer;
 mod certifying;
-pub mod command_line;
 mod elf_certifying;
 mod elf_listing;
 mod elf_witnessing;
@@ -32,7 +31,6 @@ mod texts;
 mod trying;
 mod violations;
 
-pub use crate::command_line::{Format, FormattedRequest, Request};
 pub use fault::{Fault, FileFault};
 pub use files::Files;
 pub use performing::{command, perform};

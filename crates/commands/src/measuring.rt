@@ -9,12 +9,12 @@ ghost use Rattle.commands.specs.Contents.{BeginsFile, Contents, Store};
 ghost use Rattle.commands.specs.Judged.{IsRefusedText};
 
 use crate::answer::Answer;
-use crate::command_line::Request;
 use crate::fault::Fault;
 use crate::files::Files;
 use crate::reading::bytes_of;
 use crate::sources::{JoinedText, joined_text, refused_in};
 use crate::texts::text_fault;
+use command_line::Request;
 use hepurita::Optimisation;
 use image::LONGEST_IMAGE;
 use image_reports::image_statistics::image_statistics;

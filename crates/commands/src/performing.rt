@@ -12,7 +12,6 @@ ghost use Rattle.commands.specs.json.Performed.{PerformsAs};
 
 use crate::answer::{Answer, DONE};
 use crate::certifying::certify_image;
-use crate::command_line::{Format, FormattedRequest, NoRequest, Request, parse};
 use crate::elf_certifying::certify_elf;
 use crate::elf_listing::leak_elf;
 use crate::elf_witnessing::witness_elf;
@@ -29,6 +28,7 @@ use crate::side_by_side::run_file;
 use crate::texts::{build_image, check_text};
 use crate::trying::try_file;
 use crate::violations::check_all;
+use command_line::{Format, FormattedRequest, NoRequest, Request, parse};
 use explanations::Explanation;
 use input_files::wrapping::Asked;
 use language::Refusal;

@@ -9,10 +9,10 @@ ghost use Rattle.commands.specs.Pictures.{asked_text, RefusesLists};
 
 use crate::answer::Answer;
 use crate::certifying::text_of;
-use crate::command_line::Request;
 use crate::fault::Fault;
 use crate::files::Files;
 use crate::images::{both_args, image_with_params, pairing_line};
+use command_line::Request;
 use hepurita::{RunFault, pair};
 use image::Image;
 use image_reports::certificates::{Shifts, certify, read_given};

@@ -13,12 +13,12 @@ ghost use Rattle.commands.specs.HartsText.{status_of_ends};
 ghost use Rattle.commands.specs.OutcomeText.{outcome_text};
 
 use crate::answer::{Answer, DONE, STOPPED};
-use crate::command_line::Request;
 use crate::fault::{Fault, FileFault};
 use crate::files::Files;
 use crate::images::image_with_args;
 use crate::outcome;
 use crate::reading::bytes_of;
+use command_line::Request;
 use harts::{HartEnd, run_harts};
 use image::Image;
 use input_files::harts_file::{FileJob, read};

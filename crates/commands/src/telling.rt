@@ -4,8 +4,8 @@ ghost use Rattle.std.specs.Prelude.{◌≡◌, ◌≢◌, ◌⊎◌, false, true
 ghost use Rattle.commands.specs.Below.{Certified, collected, Executed, HasLines, IsTold, Paired, Reaches};
 ghost use Rattle.commands.specs.Progress.{RunGoesOn, PairGoesOn, CertificateGoesOn, RunTells, Tells};
 
-use crate::command_line::StepOptions;
 use crate::step_counts::{put_steps, run_counting};
+use command_line::StepOptions;
 use hepurita::{
     RunFault, answer, code, execute, fault_of_both, first_fault, load, pair, result_space,
 };

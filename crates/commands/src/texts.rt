@@ -12,10 +12,10 @@ ghost use Rattle.input_files.specs.stream_build.Faults as texts;
 ghost use Rattle.commands.specs.Below.{one_more};
 
 use crate::answer::Answer;
-use crate::command_line::{CompileOptions, Request};
 use crate::fault::{Fault, FileFault};
 use crate::files::Files;
 use crate::sources::{joined_text, refused_in};
+use command_line::{CompileOptions, Request};
 use hepurita::{build_with, judge_as};
 use input_files::stream_build::{BuildFault, read_text};
 use language::Profile;

@@ -8,11 +8,11 @@ ghost use Rattle.commands.specs.Failures.{IsReadBy};
 ghost use Rattle.commands.specs.Vectors.{NoVectorsText, status_of_failures};
 
 use crate::answer::{Answer, DONE};
-use crate::command_line::Request;
 use crate::fault::{Fault, FileFault};
 use crate::files::Files;
 use crate::reading::bytes_of;
 use crate::sources::{joined_text, refused_in};
+use command_line::Request;
 use hepurita::Optimisation;
 use image_reports::vectors::{LONGEST_VECTORS, VectorsFault, read, try_vectors};
 use language::Profile;

@@ -10,10 +10,10 @@ ghost use Rattle.commands.specs.Unread.{IsOutOfMemory};
 ghost use Rattle.commands.specs.Violations.{AreToldBy, fault_lines, ListsSource};
 
 use crate::answer::{Answer, REFUSED};
-use crate::command_line::Request;
 use crate::fault::Fault;
 use crate::files::Files;
 use crate::sources::{joined_text, told_by};
+use command_line::Request;
 use hepurita::violations;
 use image_reports::source_places::Library;
 use language::{Profile, Refusal, Violation};

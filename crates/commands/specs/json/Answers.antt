@@ -4,8 +4,8 @@ use Rattle.commands.specs.Contents.{Contents}
 use Rattle.commands.specs.Judged.{IsAccepted}
 use Rattle.commands.specs.Requests.{Answers}
 use Rattle.commands.specs.Violations.{listing_status, ListsSource}
-use Rattle.commands.specs.declared.command_line.words.Request.{Request}
-use Rattle.commands.specs.declared.command_line.words.Request.TheVariants as requests
+use Rattle.command_line.specs.declared.words.Request.{Request}
+use Rattle.command_line.specs.declared.words.Request.TheVariants as requests
 use Rattle.commands.specs.declared.json.subject.JsonCommand.{JsonCommand}
 use Rattle.commands.specs.declared.json.subject.JsonCommand.TheVariants as commands
 use Rattle.commands.specs.declared.fault.Fault.{Fault}

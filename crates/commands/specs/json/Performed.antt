@@ -9,10 +9,10 @@ use Rattle.commands.specs.Leaks.{IsOutputFault}
 use Rattle.commands.specs.Progress.{RequestTells}
 use Rattle.commands.specs.Requests.{Leaves, Performs, Refuses, Reports}
 use Rattle.commands.specs.declared.answer.Answer.{Answer}
-use Rattle.commands.specs.declared.command_line.options.Format.{Format}
-use Rattle.commands.specs.declared.command_line.options.Format.TheVariants as formats
-use Rattle.commands.specs.declared.command_line.words.Request.{Request}
-use Rattle.commands.specs.declared.command_line.words.Request.TheVariants as requests
+use Rattle.command_line.specs.declared.options.Format.{Format}
+use Rattle.command_line.specs.declared.options.Format.TheVariants as formats
+use Rattle.command_line.specs.declared.words.Request.{Request}
+use Rattle.command_line.specs.declared.words.Request.TheVariants as requests
 use Rattle.commands.specs.declared.fault.Fault.{Fault}
 use Rattle.commands.specs.declared.json.subject.JsonCommand.TheVariants as commands
 use Rattle.commands.specs.declared.json.subject.Subject.{Subject}

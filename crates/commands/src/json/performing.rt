@@ -4,14 +4,13 @@ ghost use Rattle.std.specs.Prelude.{◌≡◌, ◌≤◌, Err, IsTrue, IfOk, OnE
 ghost use Rattle.commands.specs.Answered.{IsCounted};
 ghost use Rattle.commands.specs.Below.{collected};
 ghost use Rattle.commands.specs.Requests.{EndsByStatus};
-ghost use Rattle.commands.specs.declared.command_line.options.Format.TheVariants as formats;
+ghost use Rattle.command_line.specs.declared.options.Format.TheVariants as formats;
 ghost use Rattle.commands.specs.json.Performed.{GivesInJson, IsLineOf, PerformsAs, PrintsLine};
 ghost use Rattle.commands.specs.json.Printed.{CountsLine, CountsLineOf, GivesLines, PrintsLineOf};
 ghost use Rattle.commands.specs.declared.fault.Fault.{Fault};
 
 use crate::answer::Answer;
 use crate::certifying::certify_image;
-use crate::command_line::{CompileOptions, LinkOptions, Request};
 use crate::evaluating::evaluate_text;
 use crate::fault::{Fault, FileFault};
 use crate::files::Files;
@@ -25,6 +24,7 @@ use crate::performing::{STANDARD_OUTPUT, perform_in_text, report};
 use crate::texts::{build_image, check_text};
 use crate::trying::try_file;
 use crate::violations::told_violations;
+use command_line::{CompileOptions, LinkOptions, Request};
 use language::Profile;
 use std::alloc::{AllocError, Global};
 use streams::{Sink, put_all};

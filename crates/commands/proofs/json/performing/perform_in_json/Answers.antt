@@ -2,7 +2,7 @@ use Rattle.std.proofs.Common.{refl, ⊎_elim}
 use Rattle.commands.specs.ImageRefusals as images
 use Rattle.commands.specs.Meanings as meanings
 use Rattle.commands.specs.Vectors as vectors
-use Rattle.commands.specs.declared.command_line.words.Request.TheVariants as requests
+use Rattle.command_line.specs.declared.words.Request.TheVariants as requests
 use Rattle.commands.specs.Below.{collected}
 use Rattle.commands.proofs.JsonLemmas.{calm_of, costs_memory, counts_lines, ends_line, gives_lines, in_text}
 use Rattle.commands.proofs.JsonLemmas.{lines_told, performed_from, performed_quietly}

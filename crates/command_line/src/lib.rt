@@ -1,4 +1,6 @@
-// What the words of a command line ask of `factc`. They are read by `clap`.
+// What the words of a command line ask of `factc`: one of its commands, with its files, arguments and options. They are
+// read by `clap`, by the table of commands. No request writes a file that it reads.
+#![tactic(auto)]
 
 mod asked;
 mod commands;

@@ -3,10 +3,11 @@ use Rattle.std.specs.Prelude.{◌≡◌, ◌≢◌, ℕ, Bool, ◌||◌, if◌th
 use Rattle.std.specs.Prelude.{slice_index_or, map, nat_eq, IfSome, ⊤}
 use Rattle.std.specs.List.{All, starts_with}
 use Rattle.std.specs.Str.{bytes_eq}
-use Rattle.commands.specs.Below.{P1, P2, Profile}
-use Rattle.commands.specs.declared.command_line.words.Request.{Request}
-use Rattle.commands.specs.declared.command_line.words.Request.TheVariants.{Build, Certify, Eval, Function, Leak, Pair}
-use Rattle.commands.specs.declared.command_line.words.Request.TheVariants.{Picture, Run, Wrap}
+use Rattle.word.specs.declared.profile.Profile.{Profile}
+use Rattle.word.specs.declared.profile.Profile.TheVariants.{P1, P2}
+use Rattle.command_line.specs.declared.words.Request.{Request}
+use Rattle.command_line.specs.declared.words.Request.TheVariants.{Build, Certify, Eval, Function, Leak, Pair}
+use Rattle.command_line.specs.declared.words.Request.TheVariants.{Picture, Run, Wrap}
 
 -- whether a word may stand alone between a command that takes arguments and its path: a flag, `--format=` and a format,
 -- or `--with=` and a library

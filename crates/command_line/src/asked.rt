@@ -4,13 +4,13 @@ ghost use Rattle.std.specs.Prelude.{◌≡◌, ◌≢◌, [], None, Some, codes,
 ghost use Rattle.std.specs.List.{All};
 ghost use Rattle.std.specs.Option.{option_map_or};
 ghost use Rattle.clap.specs.Matches.{first_value, found_of, matched_of, one_text, raw_values};
-ghost use Rattle.commands.specs.command_line.Words.{arguments_of, profile_named, WritesNoneItReads};
+ghost use Rattle.command_line.specs.Words.{arguments_of, profile_named, WritesNoneItReads};
 
-use crate::command_line::on_executables::request_on_executable;
-use crate::command_line::options::{
+use crate::on_executables::request_on_executable;
+use crate::options::{
     CertifyOptions, CompileOptions, Format, LinkOptions, PairOptions, StepOptions,
 };
-use crate::command_line::words::{FormattedRequest, Request};
+use crate::words::{FormattedRequest, Request};
 use clap::ArgMatches;
 use clap::error::ErrorKind;
 use explanations::explanation;

@@ -1,6 +1,6 @@
 // The commands of `factc`, a row for each, and what `clap` makes of the rows.
 
-use crate::command_line::commands::{COMMANDS, CommandRow, CommandWord, ELF_ABOUT, ELF_COMMANDS};
+use crate::commands::{COMMANDS, CommandRow, CommandWord, ELF_ABOUT, ELF_COMMANDS};
 use clap::builder::ValueParser;
 use clap::{Arg, ArgAction, Command, value_parser};
 use explanations::codes;

@@ -1,10 +1,10 @@
 ghost use Rattle.std.specs.Prelude.{◌≡◌, ◌≤◌, length, map, IfOk};
-ghost use Rattle.commands.specs.command_line.Words.{is_flag, behind_flags, behind_value, after_path, IsAskedBy};
-ghost use Rattle.commands.specs.command_line.Words.{takes_value, WritesNoneItReads};
+ghost use Rattle.command_line.specs.Words.{is_flag, behind_flags, behind_value, after_path, IsAskedBy};
+ghost use Rattle.command_line.specs.Words.{takes_value, WritesNoneItReads};
 
-use crate::command_line::asked::request_of;
-use crate::command_line::grammar::factc;
-use crate::command_line::options::{
+use crate::asked::request_of;
+use crate::grammar::factc;
+use crate::options::{
     CertifyOptions, CompileOptions, Format, FunctionOptions, LinkOptions, ObservedOptions,
     PairOptions, StepOptions,
 };

@@ -1,12 +1,12 @@
 // What each command on executables asks for, by its words as `clap` matched them.
 
 ghost use Rattle.std.specs.Prelude.{◌≡◌, ◌<◌, ◌^◌, None, IfOk};
-ghost use Rattle.commands.specs.command_line.Words.{arguments_of, WritesNoneItReads};
+ghost use Rattle.command_line.specs.Words.{arguments_of, WritesNoneItReads};
 
-use crate::command_line::asked::{NO_COMMAND, profile_of, text_of, texts_of};
-use crate::command_line::commands::MOST_STEPS;
-use crate::command_line::options::{FunctionOptions, ObservedOptions};
-use crate::command_line::words::Request;
+use crate::asked::{NO_COMMAND, profile_of, text_of, texts_of};
+use crate::commands::MOST_STEPS;
+use crate::options::{FunctionOptions, ObservedOptions};
+use crate::words::Request;
 use clap::ArgMatches;
 use clap::error::ErrorKind;
 use elf_reports::AskedWords;
