@@ -17,6 +17,7 @@ use std::alloc::Global;
 use word::Profile;
 
 /// What the words ask for.
+#[derive(Clone, Copy)]
 pub enum Request<'a> {
     Check {
         libraries: &'a [&'a str],
@@ -122,6 +123,7 @@ pub enum Request<'a> {
 }
 
 /// What the words ask for, and how it is to be answered.
+#[derive(Clone, Copy)]
 pub struct FormattedRequest<'a> {
     pub request: Request<'a>,
     pub format: Format,

@@ -46,4 +46,7 @@ pub trait Files {
             → IsWritten path.now (Self.Sink.taken sink) (store self.old).contents (store self.new).contents }
         ensures counts { (store self.new).failures
             ≡ (failed_times (Self.Sink.failures sink) (store self.old)).failures };
+
+    /// Whether two paths lead to one file, as far as that can be told. Nothing is promised of the answer.
+    fn is_one_file(&self, one: &str, other: &str) -> bool;
 }

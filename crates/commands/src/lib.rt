@@ -20,6 +20,7 @@ mod images;
 mod json;
 mod measuring;
 mod outcome;
+mod overwriting;
 mod performing;
 mod picturing;
 mod reading;

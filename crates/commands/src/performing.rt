@@ -23,6 +23,7 @@ use crate::function_files::write_function;
 use crate::images::{leak_image, list_image, pair_image, run_image};
 use crate::json::perform_in_json;
 use crate::measuring::measure_file;
+use crate::overwriting::overwritten;
 use crate::picturing::picture_image;
 use crate::side_by_side::run_file;
 use crate::texts::{build_image, check_text};
@@ -40,8 +41,8 @@ pub const STANDARD_OUTPUT: &str = "-";
 
 const OUT_OF_MEMORY: &str = "refused: M1: memory\n";
 
-/// Does what the words ask for, of which the first is the program's own name, or says why they ask for nothing, and
-/// answers the exit status: 0 done, 1 refused by a rule or not certified, 2 the command line is wrong, 3 a file failed,
+/// Does what the words ask for, of which the first is the program's own name, or says why they ask for nothing, or for
+/// what would write over a file that is read, and answers the exit status: 0 done, 1 refused by a rule or not certified, 2 the command line is wrong, 3 a file failed,
 /// 4 memory, 5 stopped otherwise than by ECALL.
 pub fn command<'a, F: Files, O: Sink, E: Sink>(
     alloc: Global,
@@ -61,8 +62,19 @@ pub fn command<'a, F: Files, O: Sink, E: Sink>(
 {
     let mut matched = None;
     match parse(alloc, words, &mut matched) {
-        Ok(asked) => perform(alloc, asked, files, out, err),
+        Ok(asked) => match overwritten(files, &asked.request) {
+            Some(path) => explain(alloc, would_be_lost(alloc, path), out, err),
+            None => perform(alloc, asked, files, out, err),
+        },
         Err(said) => explain(alloc, said, out, err),
+    }
+}
+
+/// What is said where a file that is read, or another that is written, would be lost.
+fn would_be_lost(alloc: Global, path: &str) -> NoRequest {
+    match format!(in alloc; "error: {path} is another path of a file that would be lost\n") {
+        Ok(text) => NoRequest::Wrong(text),
+        Err(_) => NoRequest::Memory,
     }
 }
 

@@ -56,6 +56,10 @@ impl Files for OneFile {
         Ok(CountedSink::new(ByteSink::new(self.alloc)))
     }
 
+    fn is_one_file(&self, one: &str, other: &str) -> bool {
+        one == other
+    }
+
     fn finish(&mut self, path: &str, sink: CountedSink) {
         self.failures = self.failures.saturating_add(sink.failures());
         if path == self.path.as_str() {

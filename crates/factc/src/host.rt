@@ -3,6 +3,7 @@ ghost use Rattle.std.specs.Prelude.{◌≡◌, false, [], None};
 use commands::{Files, command};
 use std::alloc::{AllocError, Global};
 use std::io::{ErrorKind, Read, Write};
+use std::os::unix::fs::MetadataExt;
 use std::rt::{Env, Files as FileSystem};
 use std::{env, fs};
 use streams::{Sink, SinkFault, Source, SourceFault, put_all};
@@ -99,6 +100,15 @@ impl<R: FileSystem> Files for HostFiles<'_, R> {
 
     fn finish(&mut self, _path: &str, sink: Unbuffered<R::File>) {
         self.failures = self.failures.saturating_add(sink.failures);
+    }
+
+    fn is_one_file(&self, one: &str, other: &str) -> bool {
+        match (fs::metadata(self.rt, one), fs::metadata(self.rt, other)) {
+            (Ok(one), Ok(other)) => {
+                one.is_file() && one.dev() == other.dev() && one.ino() == other.ino()
+            }
+            _ => false,
+        }
     }
 }
 
