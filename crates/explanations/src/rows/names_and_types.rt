@@ -22,11 +22,13 @@ pub const N2: &str =
 
 pub const N3: &str =
     "A procedure can call only those that stand before it in the source: not itself, no later one and no\n\
-    variable. So there is no recursion. Move the called procedure up.";
+    variable. So there is no recursion. Move the called procedure up. If it stands in a file of its own,\n\
+    `--with` reads that file first.";
 
 pub const N4: &str =
     "Exactly one procedure of a source has `export`: it is the one that is compiled, with all that it\n\
-    calls. If none has it, the error is at 1:1; if several have it, it is at the second.";
+    calls. If none has it, the error is at 1:1; if several have it, it is at the second. A file that is\n\
+    read by `--with` has none: it is checked together with one that has.";
 
 pub const T1: &str =
     "Two numbers of different widths meet: the operands of an operator, the last two of `select`, or a\n\

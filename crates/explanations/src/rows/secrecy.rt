@@ -31,7 +31,8 @@ pub const L4: &str =
 
 pub const L5: &str =
     "Both operands of `/` and `%` must be public, since the time of a division depends on them and an\n\
-    observer sees it. To divide a secret by a power of 2, use `>>` and `&`.";
+    observer sees it. To divide a secret by a power of 2, use `>>` and `&`; for other divisors copy\n\
+    `routines/divide_32`, which shifts and subtracts.";
 
 pub const L6: &str =
     "In the arms of an `if` on a secret, no procedure may be called that may assign to something public:\n\
