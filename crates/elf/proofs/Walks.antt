@@ -5,6 +5,7 @@ use Rattle.elf.specs.Lookup.{covers}
 use Rattle.elf.specs.Segments.{program_header_at, program_headers_from}
 use Rattle.elf.specs.Symbols.{is_table, section_at, sections_from, symbol_at, symbols_from}
 use Rattle.elf.specs.declared.program_header.ProgramHeader.{ProgramHeader}
+use Rattle.elf.specs.declared.lookup.Wanted.{Wanted}
 use Rattle.elf.specs.declared.symbol.Symbol.{Symbol}
 
 pub find_past : {A : Type 0} (test : A → Bool) (x : A) (xs : List A) → test x ≡ false
@@ -80,19 +81,21 @@ no_symbol n k table le =
     let none : n - k ≡ 0 = omega arith in
     rw none refl
 
-pub cover_past : (address n k : ℕ) (table : List ℕ) → k < n → covers address (symbol_at (16 * k) table) ≡ false
-    → find (covers address) (symbols_from (n - k) (16 * k) table)
-    ≡ find (covers address) (symbols_from (n - (k + 1)) (16 * (k + 1)) table)
-cover_past address n k table lt misses =
-    ap (find (covers address)) (one_symbol n k table lt)
-    ∙ find_past (covers address) (symbol_at (16 * k) table) (symbols_from (n - (k + 1)) (16 * (k + 1)) table) misses
+pub cover_past : (wanted : Wanted) (address n k : ℕ) (table : List ℕ) → k < n
+    → covers wanted address (symbol_at (16 * k) table) ≡ false
+    → find (covers wanted address) (symbols_from (n - k) (16 * k) table)
+    ≡ find (covers wanted address) (symbols_from (n - (k + 1)) (16 * (k + 1)) table)
+cover_past wanted address n k table lt misses =
+    ap (find (covers wanted address)) (one_symbol n k table lt)
+    ∙ find_past (covers wanted address) (symbol_at (16 * k) table) (symbols_from (n - (k + 1)) (16 * (k + 1)) table) misses
 
-pub cover_here : (address n k : ℕ) (table : List ℕ) → k < n → covers address (symbol_at (16 * k) table) ≡ true
-    → find (covers address) (symbols_from (n - k) (16 * k) table) ≡ Some (symbol_at (16 * k) table)
-cover_here address n k table lt passes =
-    ap (find (covers address)) (one_symbol n k table lt)
-    ∙ find_here (covers address) (symbol_at (16 * k) table) (symbols_from (n - (k + 1)) (16 * (k + 1)) table) passes
+pub cover_here : (wanted : Wanted) (address n k : ℕ) (table : List ℕ) → k < n
+    → covers wanted address (symbol_at (16 * k) table) ≡ true
+    → find (covers wanted address) (symbols_from (n - k) (16 * k) table) ≡ Some (symbol_at (16 * k) table)
+cover_here wanted address n k table lt passes =
+    ap (find (covers wanted address)) (one_symbol n k table lt)
+    ∙ find_here (covers wanted address) (symbol_at (16 * k) table) (symbols_from (n - (k + 1)) (16 * (k + 1)) table) passes
 
-pub covers_done : (address n k : ℕ) (table : List ℕ) → n ≤ k
-    → find (covers address) (symbols_from (n - k) (16 * k) table) ≡ None
-covers_done address n k table le = ap (find (covers address)) (no_symbol n k table le)
+pub covers_done : (wanted : Wanted) (address n k : ℕ) (table : List ℕ) → n ≤ k
+    → find (covers wanted address) (symbols_from (n - k) (16 * k) table) ≡ None
+covers_done wanted address n k table le = ap (find (covers wanted address)) (no_symbol n k table le)

@@ -1,4 +1,4 @@
--- Which symbol a name means, and which function an address lies in (gABI, chapter 4, "Symbol Table": STB_LOCAL,
+-- Which symbol a name means, and which function or object an address lies in (gABI, chapter 4, "Symbol Table": STB_LOCAL,
 -- STT_NOTYPE, STT_OBJECT, STT_FUNC, SHN_UNDEF).
 use Rattle.std.specs.Prelude.{ℕ, ◌+◌, ◌-◌, ◌/◌, ◌%◌, Bool, not, ◌&&◌, List, [], ◌∷◌, ◌++◌, drop, Option, None, Some}
 use Rattle.std.specs.Prelude.{find, nat_eq, nat_le, nat_lt, ◌==◌, if◌then◌else◌}
@@ -77,12 +77,12 @@ up_to_zero (byte ∷ bytes) = if byte == 0 then [] else byte ∷ up_to_zero byte
 abbrev pub name_at : List ℕ → ℕ → List ℕ
 name_at strings place = up_to_zero (drop place strings)
 
--- it is a function, and the address is one of its bytes
-abbrev pub covers : ℕ → Symbol → Bool
-covers address symbol =
-    is_function symbol && nat_le symbol.value address && nat_lt address (symbol.value + symbol.size)
+-- it is of the kind that is wanted, and the address is one of its bytes
+abbrev pub covers : Wanted → ℕ → Symbol → Bool
+covers wanted address symbol =
+    is_wanted wanted symbol && nat_le symbol.value address && nat_lt address (symbol.value + symbol.size)
 
--- how an address is written by the symbols: the name of a function, and how far behind its beginning
+-- how an address is written by the symbols: the name of what it lies in, and how far behind its beginning
 abbrev pub place_in : List ℕ → ℕ → Option Symbol → Option (List ℕ × ℕ)
 place_in strings address None = None
 place_in strings address (Some symbol) = Some (name_at strings symbol.name, address - symbol.value)
@@ -90,9 +90,14 @@ place_in strings address (Some symbol) = Some (name_at strings symbol.name, addr
 -- the first function that an address lies in
 abbrev pub function_at : Executable → ℕ → Option (List ℕ × ℕ)
 function_at program address =
-    place_in program.strings address (find (covers address) program.symbols)
+    place_in program.strings address (find (covers wanted.Function address) program.symbols)
+
+-- the first object that an address lies in
+abbrev pub object_at : Executable → ℕ → Option (List ℕ × ℕ)
+object_at program address =
+    place_in program.strings address (find (covers wanted.Object address) program.symbols)
 
 -- a position without where its name lies
 abbrev pub position_of : Option Position → Option (List ℕ × ℕ)
 position_of None = None
-position_of (Some position) = Some (position.function.now, position.offset)
+position_of (Some position) = Some (position.name.now, position.offset)

@@ -54,14 +54,23 @@ pub(crate) fn preferred(table: &[u8], strings: &[u8], wanted: Wanted, name: &[u8
     found
 }
 
-/// The first function that an address lies in.
+/// Whether the symbol is of this kind, and the address is one of its bytes.
+fn covers(symbol: &Symbol, wanted: Wanted, address: u32) -> bool
+    ensures { result ≡ covers wanted address symbol.now }
+{
+    wanted.is(symbol)
+        && symbol.value <= address
+        && u64::from(address) < u64::from(symbol.value) + u64::from(symbol.size)
+}
+
+/// The first symbol of this kind that an address lies in.
 #[tactic(auto, using(crate::proofs::Walks::cover_past, crate::proofs::Walks::cover_here, crate::proofs::Walks::covers_done))]
-pub(crate) fn covering(table: &[u8], address: u32) -> Option<Symbol>
-    ensures { result ≡ find (covers address) (symbols_of table.now) }
+pub(crate) fn covering(table: &[u8], wanted: Wanted, address: u32) -> Option<Symbol>
+    ensures { result ≡ find (covers wanted address) (symbols_of table.now) }
 {
     'symbols: for k in 0..table.len() / SYMBOL_BYTES {
         let symbol = Symbol::at(table, SYMBOL_BYTES * k);
-        if symbol.covers(address) {
+        if covers(&symbol, wanted, address) {
             return Some(symbol);
         }
     }

@@ -41,7 +41,9 @@ impl<'a> Model for Program<'a> {
 }
 
 impl<'a> Program<'a> {
-    ghost use Rattle.elf.specs.Lookup.{address_named, function_at, function_named, object_named, position_of};
+    ghost use Rattle.std.specs.Prelude.{find};
+    ghost use Rattle.elf.specs.Lookup.{address_named, covers, function_at, function_named, object_at, object_named};
+    ghost use Rattle.elf.specs.Lookup.{place_in, position_of};
     ghost use Rattle.elf.specs.Symbols.{symbols_of};
 
     /// The program of these.
@@ -120,9 +122,24 @@ impl<'a> Program<'a> {
     pub fn function_at(&self, address: u32) -> Option<Position<'a>>
         ensures { position_of result ≡ function_at self.now address }
     {
-        let symbol = covering(self.symbols, address)?;
+        self.position(Wanted::Function, address)
+    }
+
+    /// The first object that an address lies in, and how far behind its beginning.
+    pub fn object_at(&self, address: u32) -> Option<Position<'a>>
+        ensures { position_of result ≡ object_at self.now address }
+    {
+        self.position(Wanted::Object, address)
+    }
+
+    /// The first symbol of this kind that an address lies in, and how far behind its beginning.
+    fn position(&self, wanted: Wanted, address: u32) -> Option<Position<'a>>
+        ensures { position_of result
+            ≡ place_in self.now.strings address (find (covers wanted address) self.now.symbols) }
+    {
+        let symbol = covering(self.symbols, wanted, address)?;
         Some(Position {
-            function: first_name(rest_at(self.strings, symbol.name as usize)),
+            name: first_name(rest_at(self.strings, symbol.name as usize)),
             offset: address.saturating_sub(symbol.value),
         })
     }

@@ -1,7 +1,7 @@
 // Symbols: names of addresses.
 
 ghost use Rattle.std.specs.Prelude.{◌≡◌, ◌<◌, ◌^◌};
-ghost use Rattle.elf.specs.Lookup.{covers, is_address, is_function, is_named, is_object, is_shared};
+ghost use Rattle.elf.specs.Lookup.{is_address, is_function, is_named, is_object, is_shared};
 ghost use Rattle.elf.specs.Symbols.{symbol_at};
 
 use crate::names::is_name;
@@ -29,10 +29,10 @@ pub struct Object {
     pub size: u32,
 }
 
-/// An address by the symbols: the name of a function, and how far behind its beginning.
+/// An address by the symbols: the name of what it lies in, and how far behind its beginning.
 #[derive(Clone, Copy, Debug)]
 pub struct Position<'a> {
-    pub function: &'a [u8],
+    pub name: &'a [u8],
     pub offset: u32,
 }
 
@@ -85,14 +85,5 @@ impl Symbol {
         ensures { result ≡ is_named strings.now name.now self.now }
     {
         is_name(rest_at(strings, self.name as usize), name)
-    }
-
-    /// Whether it is a function, and the address is one of its bytes.
-    pub(crate) fn covers(&self, address: u32) -> bool
-        ensures { result ≡ covers address self.now }
-    {
-        self.is_function()
-            && self.value <= address
-            && u64::from(address) < u64::from(self.value) + u64::from(self.size)
     }
 }
