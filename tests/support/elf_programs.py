@@ -81,7 +81,7 @@ def words_of(code):
     return struct.pack(f"<{len(code)}I", *code)
 
 
-def elf_of(code, functions=None, global_pointer=True, code_flags=PF_R | PF_X, code_size=None):
+def elf_of(code, functions=None, global_pointer=True, code_flags=PF_R | PF_X, code_size=None, size=36):
     """The program of some code. `functions` has how many words each of its functions takes; without it, f takes all."""
     symbols, at = [Symbol("table", TABLE, 16, STT_OBJECT)], CODE
     for name, count in (functions or {"f": len(code)}).items():
@@ -93,7 +93,7 @@ def elf_of(code, functions=None, global_pointer=True, code_flags=PF_R | PF_X, co
     segments = [
         Segment(CODE, words_of(code), code_size, code_flags),
         Segment(TABLE, bytes(range(16)), flags=PF_R),
-        Segment(DATA, b"\1\2\3\4", 36, PF_R | PF_W),
+        Segment(DATA, b"\1\2\3\4", size, PF_R | PF_W),
     ]
     return Elf(segments, symbols)
 

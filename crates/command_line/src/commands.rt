@@ -397,6 +397,11 @@ pub(crate) static ELF_COMMANDS: [CommandRow; 3] = [
                 "shifts",
                 "Counts the amounts of shifts by a register as visible, for cores that shift bit by bit",
             ),
+            CommandWord::Flag(
+                "explain",
+                "If runs may differ, names the unknown registers that the instruction there reads, and the load that \
+                 each of them comes from",
+            ),
             CommandWord::Flag("progress", PROGRESS_ANYWHERE),
         ],
     },

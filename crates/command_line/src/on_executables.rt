@@ -59,6 +59,7 @@ fn options_of(given: &ArgMatches<'_>) -> FunctionOptions {
         profile: profile_of(given),
         shifts: given.get_flag("shifts"),
         steps: steps_of(given),
+        explain: given.get_flag("explain"),
         progress: given.get_flag("progress"),
     }
 }

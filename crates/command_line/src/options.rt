@@ -55,12 +55,13 @@ pub struct CertifyOptions {
 }
 
 /// Who observes a run of a function, whether that observer sees the amounts of shifts by registers, how many steps the
-/// run has at most, and whether it says how far it is.
+/// run has at most, whether it is explained why runs may differ, and whether the run says how far it is.
 #[derive(Clone, Copy, Debug)]
 pub struct FunctionOptions {
     pub profile: Profile,
     pub shifts: bool,
     pub steps: u64,
+    pub explain: bool,
     pub progress: bool,
     ghost bounded: { steps < 2 ^ 62 },
 }

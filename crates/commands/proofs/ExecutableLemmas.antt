@@ -1,10 +1,5 @@
 -- Files of executables, and that a step that may differ is one of an instruction of the program.
-use Rattle.std.proofs.Common.{◌≡◌, ◌≢◌, ℕ, zero, suc, ◌+◌, ◌-◌, ◌*◌, ◌%◌, ◌^◌, ◌<◌, ◌≤◌, List, [], ◌∷◌, length, take, Option, None, Some}
-use Rattle.std.proofs.Common.{Bool, eq-eqb, false, inl, inr, ne_eqb, true}
-use Rattle.std.specs.Option.{option_map}
-use Rattle.std.specs.Prelude.{if◌then◌else◌}
-use Rattle.std.proofs.lemmas.Option.{none-some}
-use Rattle.std.proofs.lemmas.Bool.{cases_Bool}
+use Rattle.std.proofs.Common.{◌≡◌, ◌≢◌, ℕ, zero, suc, ◌+◌, ◌-◌, ◌<◌, ◌≤◌, List, length, take, Option, None, Some}
 use Rattle.std.proofs.Common.{Result, Ok, Err, refl, sym, ap, ◌∙◌, subst, arith}
 use Rattle.std.proofs.lemmas.List.{length-take, length-take-le, take_all}
 use Rattle.certified_runs.specs.Certified.{CertifiedRun, may_differ, RunEnding, same}
@@ -14,21 +9,12 @@ use Rattle.elf.specs.Reading.{IsUnlessMemory, reading}
 use Rattle.elf.specs.declared.fault.ElfFault.TheVariants.{File, Memory}
 use Rattle.elf.specs.declared.fault.ElfRule.TheVariants.{Ranges}
 use Rattle.elf_runs.specs.Certified.{certificate_at, certified, refused}
-use Rattle.elf_reports.specs.Encodings.{encoding_by}
-use Rattle.elf_runs.specs.Loading.{addresses_of, alignment_by, code_among, code_by}
-use Rattle.elf_reports.specs.declared.encodings.Encoding.TheVariants.{Halfword, Word}
-use Rattle.elf_runs.specs.Code.{halfwords_from, PlacedCode, program_code, words_from}
-use Rattle.rv_code.proofs.ExpansionLaws.{begins_no_word}
-use Rattle.rv_code.specs.Words.{word_of}
-use Rattle.rv_machine.specs.Paged.{lies_in}
-use Rattle.rv_machine.specs.declared.memory.Size.{Size}
-use Rattle.rv_programs.specs.Code as standing
-use Rattle.rv_programs.specs.Code.{halfword_at, ProgramCode, StandsIn}
+use Rattle.elf_reports.proofs.Standing.{begins_there}
 use Rattle.elf_runs.specs.declared.certifying.FunctionCertificate.TheVariants.{MayDiffer, Same}
 use Rattle.rv_machine.specs.declared.observation.Observation.{Observation}
 use Rattle.commands.specs.Below.{AskedRun, AskedWords, CertifiedFunction, ElfFault, Executable, FunctionCertificate, machine_program}
-use Rattle.commands.specs.Below.{Encoding, encoding_at, encoding_in, first_unmet, Instr, IsLineOfEncoding}
-use Rattle.commands.specs.Below.{MachineProgram, P1, Profile, RunOptions, StandsAt, StartFault, Unmet}
+use Rattle.commands.specs.Below.{Encoding, encoding_at, first_unmet, Instr, IsLineOfEncoding}
+use Rattle.commands.specs.Below.{MachineProgram, RunOptions, StandsAt, StartFault, Unmet}
 use Rattle.commands.specs.Contents.{Contents, BeginsFile}
 use Rattle.commands.specs.Executables.{HoldsExecutable, HoldsShort, IsLineOrNothing, longest_file, NoExecutable}
 use Rattle.commands.specs.Executables.{not_read, not_spelled, of_encoding, of_nothing, too_long}
@@ -101,54 +87,13 @@ function_stands program asked options answer entry pc (certified {certificate} m
     ends_in_code (machine_program program asked options.profile) _ _ run.seen run.ending run.address entry pc run.run
     (sym run.certificate_is ∙ same)
 
--- where an instruction stands something begins
-
-something : {found : Option Encoding} {encoding : Encoding} → found ≡ Some encoding → found ≢ None
-something {encoding = encoding} is = λ none. none-some encoding (sym none ∙ is)
-
-begins : {code : ProgramCode} {p : ℕ} {i : Instr} {length : Size} → StandsIn code p i length
-    → encoding_in code p ≢ None
-begins (standing.word at) = something (ap (option_map (λ w. Word w)) at.word)
-begins {p = p} {i} (standing.short {code} {halfword = halfword} even there expands) =
-    let next = halfword_at code (p + 2) in
-    let whole = option_map (λ high. Word (halfword + 2 ^ 16 * high)) next in
-    something
-    (ap (λ (low : Option ℕ). encoding_by low next) there
-    ∙ ap (λ (b : Bool). if b then whole else Some (Halfword halfword))
-    (ne_eqb (halfword % 4) 3 (begins_no_word halfword i expands)))
-begins {p = p} (standing.long {code} {low = low} {high = high} even there starts behind fits spells) =
-    let next = halfword_at code (p + 2) in
-    something
-    (ap (λ (found : Option ℕ). encoding_by found next) there
-    ∙ ap (λ (b : Bool). if b then option_map (λ high. Word (low + 2 ^ 16 * high)) next else Some (Halfword low))
-    (eq-eqb (low % 4) 3 starts)
-    ∙ ap (option_map (λ high. Word (low + 2 ^ 16 * high))) behind)
-
--- it is the same whoever observes it
-
-same_code : (profile : Profile) (code : PlacedCode) (a : ℕ)
-    → encoding_in (code_by profile code) a ≡ encoding_in (code_by P1 code) a
-same_code profile (words_from begin items) a = refl
-same_code profile (halfwords_from begin items) a = refl
-
-anyhow : (compressed : Bool) (profile : Profile) (codes : List PlacedCode) (a : ℕ)
-    → encoding_in (code_among (alignment_by compressed) profile codes a) a
-    ≡ encoding_in (code_among (alignment_by compressed) P1 codes a) a
-anyhow true profile [] a = refl
-anyhow false profile [] a = refl
-anyhow compressed profile (code ∷ codes) a = elim (cases_Bool (lies_in a (addresses_of code))) [
-  | inl e ↦ rw e (same_code profile code a)
-  | inr e ↦ rw e (anyhow compressed profile codes a)
-]
-
 pub stands_in_program : (program : Executable) (asked : AskedRun) (options : RunOptions)
     (certificate : FunctionCertificate) → CertifiedFunction program asked options (Ok certificate)
     → StandsInProgram program certificate
 stands_in_program program asked options (Same stop entries) h = tt
 stands_in_program program asked options (MayDiffer entry pc) h =
     let it = function_stands program asked options (Ok (MayDiffer entry pc)) entry pc h refl in
-    subst (λ (found : Option Encoding). found ≢ None)
-    (anyhow program.compressed options.profile (program_code program) pc) (begins it.1.1)
+    begins_there program asked options.profile pc it.0 it.1
 
 -- and has a line
 pub line_of_something : {program : Executable} {address : ℕ} {line : List ℕ} → IsLineOrNothing program address line

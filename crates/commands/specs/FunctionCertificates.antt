@@ -1,10 +1,11 @@
 -- What is printed of a certificate of a function of an executable.
-use Rattle.std.specs.Prelude.{◌≡◌, ◌≢◌, ℕ, ◌-◌, ◌++◌, List, Some, None, Ok, codes, ⊤}
+use Rattle.std.specs.Prelude.{◌≡◌, ◌≢◌, ℕ, ◌-◌, ◌++◌, Bool, true, false, List, Some, None, Ok, codes, ⊤}
 use Rattle.std.specs.Fmt.{decimal}
 use Rattle.commands.specs.Below.{AskedRun, AskedWords, AsksFor, CertifiedFunction, Encoding, encoding_at, Executable}
 use Rattle.commands.specs.Below.{FunctionCertificate, FunctionStop, IsLineOfEncoding, LeadThere, machine_program}
 use Rattle.commands.specs.Below.{place_line}
 use Rattle.commands.specs.Below.{RunOptions, state_at_start}
+use Rattle.elf_reports.specs.Explained.{ExplainsFunction}
 use Rattle.elf_runs.specs.Certified.{stop_name}
 use Rattle.commands.specs.Certificates.{shifts_seen}
 use Rattle.commands.specs.Contents.{Contents}
@@ -40,6 +41,16 @@ PrintsFunctionCertificate program asked options (MayDiffer entry pc) text =
     × LeadThere (machine_program program asked options.profile) (state_at_start program asked) (entry - 1) calls
     × (text ≡ codes "may differ at " ++ decimal entry ++ codes "\n" ++ line ++ place_line program pc calls)
 
+-- the same; where it is to be explained, and an entry may differ, these lines follow
+abbrev pub PrintsExplainedFunction : Bool → Executable → AskedRun → RunOptions → FunctionCertificate → List ℕ → Type 0
+PrintsExplainedFunction explain program asked options (Same stop entries) text =
+    PrintsFunctionCertificate program asked options (Same stop entries) text
+PrintsExplainedFunction false program asked options (MayDiffer entry pc) text =
+    PrintsFunctionCertificate program asked options (MayDiffer entry pc) text
+PrintsExplainedFunction true program asked options (MayDiffer entry pc) text =
+    (first lines : List ℕ) × PrintsFunctionCertificate program asked options (MayDiffer entry pc) first
+    × ExplainsFunction program asked options lines × (text ≡ first ++ lines)
+
 -- an instruction begins where the step is made that may differ
 abbrev pub StandsInProgram : Executable → FunctionCertificate → Type 0
 StandsInProgram program (Same stop entries) = ⊤
@@ -50,12 +61,13 @@ abbrev pub function_certificate_status : FunctionCertificate → ℕ
 function_certificate_status (Same stop entries) = function_stop_status stop
 function_certificate_status (MayDiffer entry pc) = 1
 
--- whether an observer sees the same of all runs of a program's function that begin as is asked
-pub record SaysCertificateOf (program : Executable) (asked : AskedRun) (options : RunOptions) (text : List ℕ)
-    (status : ℕ) : Type 0 where
+-- whether an observer sees the same of all runs of a program's function that begin as is asked, and what is unknown
+-- where they may differ, where that is to be explained
+pub record SaysCertificateOf (explain : Bool) (program : Executable) (asked : AskedRun) (options : RunOptions)
+    (text : List ℕ) (status : ℕ) : Type 0 where
   pub certificate : FunctionCertificate
   pub certified : CertifiedFunction program asked options (Ok certificate)
-  pub printed : PrintsFunctionCertificate program asked options certificate text
+  pub printed : PrintsExplainedFunction explain program asked options certificate text
   pub ended : status ≡ function_certificate_status certificate
 
 -- the same of a function of the file's program, as the words ask
@@ -65,4 +77,4 @@ pub record SaysFunctionCertificate (files : Contents) (path : List ℕ) (words :
   pub asked : AskedRun
   pub held : HoldsExecutable files path program
   pub as_said : AsksFor words asked
-  pub said : SaysCertificateOf program asked (run_options options) text status
+  pub said : SaysCertificateOf options.explain program asked (run_options options) text status

@@ -1,11 +1,12 @@
 // One run of a function of an executable for all that is not known when it begins.
 
-ghost use Rattle.std.specs.Prelude.{◌≡◌, ◌≤◌, ◌<◌, ◌^◌, ◌++◌, ◌⊎◌, codes, IsTrue, IfOk, IfErr, OnOk, OnErr};
+ghost use Rattle.std.specs.Prelude.{◌≡◌, ◌≤◌, ◌<◌, ◌^◌, ◌++◌, ◌⊎◌, codes, true, IsTrue, IfOk, IfErr, Ok, OnOk};
+ghost use Rattle.std.specs.Prelude.{OnErr};
 ghost use Rattle.commands.specs.Answered.{Finds, IsRead};
 ghost use Rattle.commands.specs.Below.{CertifiedFunction, collected, HasLines, needs, Reaches};
 ghost use Rattle.commands.specs.FunctionCertificates.{function_certificate_status, function_same_text};
-ghost use Rattle.commands.specs.FunctionCertificates.{PrintsFunctionCertificate, run_options, SaysCertificateOf};
-ghost use Rattle.commands.specs.FunctionCertificates.{StandsInProgram};
+ghost use Rattle.commands.specs.FunctionCertificates.{PrintsExplainedFunction, PrintsFunctionCertificate, run_options};
+ghost use Rattle.commands.specs.FunctionCertificates.{SaysCertificateOf, StandsInProgram};
 ghost use Rattle.commands.specs.Progress.{FileFunctionTells, FunctionGoesOn, Tells};
 ghost use Rattle.elf_runs.specs.Needs.{IsTold};
 ghost use Rattle.std.specs.Fmt.{decimal};
@@ -19,7 +20,7 @@ use crate::files::Files;
 use crate::function_words::{asked_of, fault_of_start};
 use command_line::{FunctionOptions, Request};
 use elf::{Program, read};
-use elf_reports::{AskedWords, certify_function_telling, push_place};
+use elf_reports::{AskedWords, certify_function_telling, explain_function, push_place};
 use elf_runs::{
     Asked, FunctionCertificate, FunctionStop, RunOptions, StartFault, calls_to, certify_function,
 };
@@ -27,7 +28,8 @@ use std::alloc::{AllocError, Global};
 use streams::Sink;
 
 /// Whether an observer sees the same of a function of an executable for all that is not known when its run begins, as
-/// lines, and the exit status. How many steps the run has made goes to `err`, where that is asked for.
+/// lines, and the exit status. With `explain` it is said why runs may differ. How many steps the run has made goes to
+/// `err`, where that is asked for.
 pub fn certify_elf<'a, F: Files, E: Sink>(
     alloc: Global,
     path: &'a str,
@@ -66,7 +68,7 @@ fn answer_of<E: Sink>(
     err: &mut E,
 ) -> Result<Answer, StartFault>
     ensures says { IfOk result (λ answer.
-        SaysCertificateOf program.now asked.now (run_options options) answer.text.items answer.status) }
+        SaysCertificateOf options.explain program.now asked.now (run_options options) answer.text.items answer.status) }
     ensures refused { IfErr result (λ fault. IsTold fault (needs program.now asked.now)) }
     ensures told { IsTrue E.TELLS
         → OnOk result (Tells HasLines options.progress (FunctionGoesOn program.now asked.now (run_options options))
@@ -76,7 +78,8 @@ fn answer_of<E: Sink>(
         (collected (E.taken err.old) (E.failures err.old)) (collected (E.taken err.new) (E.failures err.new))) }
 {
     let certificate = certificate_of(alloc, program, asked, options, err)?;
-    let text = text_of(alloc, program, asked, run_options(options), certificate)?;
+    let run = run_options(options);
+    let text = text_of(alloc, program, asked, run, certificate, options.explain)?;
     let status = status_of_certificate(certificate);
     Ok(Answer { text, status })
 }
@@ -116,25 +119,52 @@ fn certificate_of<E: Sink>(
 }
 
 /// A certificate as lines: `same` and the stop, or where runs may begin to differ, the line of what begins there, and
-/// its place by the symbols.
+/// its place by the symbols; where it is to be explained, what is unknown there follows.
 fn text_of(
     alloc: Global,
     program: &Program<'_>,
     asked: &Asked,
     options: RunOptions,
     certificate: FunctionCertificate,
+    explain: bool,
 ) -> Result<Vec<u8>, StartFault>
-    requires { StandsInProgram program.now certificate }
+    requires steps { options.steps < 2 ^ 62 }
+    requires certified { CertifiedFunction program.now asked.now options (Ok certificate) }
     ensures text { IfOk result (λ text.
-        PrintsFunctionCertificate program.now asked.now options certificate text.items) }
+        PrintsExplainedFunction explain program.now asked.now options certificate text.items) }
     ensures refused { IfErr result (λ fault. IsTold fault (needs program.now asked.now)) }
 {
     match certificate {
         FunctionCertificate::Same { stop, .. } => Ok(same_text(alloc, stop)?),
         FunctionCertificate::MayDiffer { entry, pc } => {
-            difference_text(alloc, program, asked, options, entry, pc)
+            if explain {
+                explained_text(alloc, program, asked, options, entry, pc)
+            } else {
+                difference_text(alloc, program, asked, options, entry, pc)
+            }
         }
     }
+}
+
+/// Where runs may begin to differ, what stands there, and what is unknown that it reads.
+fn explained_text(
+    alloc: Global,
+    program: &Program<'_>,
+    asked: &Asked,
+    options: RunOptions,
+    entry: u64,
+    pc: u32,
+) -> Result<Vec<u8>, StartFault>
+    requires steps { options.steps < 2 ^ 62 }
+    requires certified { CertifiedFunction program.now asked.now options (Ok (FunctionCertificate.MayDiffer entry pc)) }
+    ensures text { IfOk result (λ text. PrintsExplainedFunction true program.now asked.now options
+        (FunctionCertificate.MayDiffer entry pc) text.items) }
+    ensures refused { IfErr result (λ fault. IsTold fault (needs program.now asked.now)) }
+{
+    let mut text = difference_text(alloc, program, asked, options, entry, pc)?;
+    let lines = explain_function(alloc, program, asked, options)?;
+    text.extend_from_slice(lines.as_slice())?;
+    Ok(text)
 }
 
 /// `same` and the line of the stop; that of a stop other than a return comes first.

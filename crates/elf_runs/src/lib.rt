@@ -51,7 +51,7 @@ pub use loaded_code::{Code, PlacedHalfwords, PlacedWords};
 pub use loading::{LoadedFunction, load_function};
 pub use memory_range::MemoryRange;
 pub use options::RunOptions;
-pub use stack::RETURN_ADDRESS;
+pub use stack::{RETURN_ADDRESS, STACK_END};
 pub use starting::{Start, prepare};
 pub use stops::FunctionStop;
 pub use witnessing::{Witness, find_witness};

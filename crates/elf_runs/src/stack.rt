@@ -17,7 +17,7 @@ use std::alloc::{AllocError, Global};
 
 /// Where the stack ends. This is fixed, so that the addresses that a run shows do not depend on the other segments. It
 /// is high, since RAM, flash and ROM are below it.
-const STACK_END: u32 = 0xffff_fff0;
+pub const STACK_END: u32 = 0xffff_fff0;
 
 /// The address that the function returns to. It lies behind the stack, where no segment is: so a run that comes to it
 /// stops there.
