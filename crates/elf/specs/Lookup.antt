@@ -1,5 +1,5 @@
--- Which symbol a name means, and which function or object an address lies in (gABI, chapter 4, "Symbol Table": STB_LOCAL,
--- STT_NOTYPE, STT_OBJECT, STT_FUNC, SHN_UNDEF).
+-- Which symbol a name means, and which function or object an address lies in (gABI, chapter 4, "Symbol Table":
+-- STB_LOCAL, STT_NOTYPE, STT_OBJECT, STT_FUNC, SHN_UNDEF).
 use Rattle.std.specs.Prelude.{ℕ, ◌+◌, ◌-◌, ◌/◌, ◌%◌, Bool, not, ◌&&◌, List, [], ◌∷◌, ◌++◌, drop, Option, None, Some}
 use Rattle.std.specs.Prelude.{find, nat_eq, nat_le, nat_lt, ◌==◌, if◌then◌else◌}
 use Rattle.std.specs.List.{starts_with}
