@@ -1,4 +1,4 @@
-// Which file a request would write over, though it reads it, by another path: that the paths are apart is known already.
+// Which file a request would write over, though it reads it, by another path: that the paths differ is known already.
 
 use crate::files::Files;
 use command_line::Request;

@@ -42,8 +42,8 @@ pub const STANDARD_OUTPUT: &str = "-";
 const OUT_OF_MEMORY: &str = "refused: M1: memory\n";
 
 /// Does what the words ask for, of which the first is the program's own name, or says why they ask for nothing, or for
-/// what would write over a file that is read, and answers the exit status: 0 done, 1 refused by a rule or not certified, 2 the command line is wrong, 3 a file failed,
-/// 4 memory, 5 stopped otherwise than by ECALL.
+/// what would write over a file that is read; and answers the exit status: 0 done, 1 refused by a rule, not certified,
+/// 2 the command line is wrong, 3 a file failed, 4 memory, 5 stopped otherwise than by ECALL.
 pub fn command<'a, F: Files, O: Sink, E: Sink>(
     alloc: Global,
     words: &'a [&'a str],
