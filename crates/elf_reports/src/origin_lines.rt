@@ -59,6 +59,14 @@ fn start_line(alloc: Global, count: usize, register: Reg, first: Reg) -> Result<
     Ok(text.into_bytes())
 }
 
+/// Puts at the end the address of a load.
+fn push_load(text: &mut String, address: u32) -> Result<(), AllocError>
+    ensures { OnOk result (string_bytes text.new ≡ string_bytes text.old ++ load_address_text address) }
+{
+    write!(text, ": load {address:08x}")?;
+    Ok(())
+}
+
 /// Since which load a register is unknown.
 fn load_text(
     alloc: Global,
@@ -71,7 +79,7 @@ fn load_text(
     ensures { IfOk result (λ text. text.items ≡ load_text program.now stack register entry address) }
 {
     let mut said = format!(in alloc; "{register} unknown since entry {entry}")?;
-    write!(said, ": load {address:08x}")?;
+    push_load(&mut said, address)?;
     let mut text = said.into_bytes();
     push_read(alloc, &mut text, program, stack, address)?;
     Ok(text)

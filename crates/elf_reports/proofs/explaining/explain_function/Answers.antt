@@ -24,4 +24,12 @@ origin_lines-requires c =
     undecided.instr (register_masks undecided.masks) (origins_in undecided.origins.kept) c.in-Some.ensures.found
 
 pub returns-clause-text : goal.returns-clause-text
-returns-clause-text c = ?
+returns-clause-text c =
+    let loaded = c.in_ok-loaded.loaded in
+    let undecided = c.in-Some.undecided in
+    explained c.args.program.now c.args.asked.now c.args.options (program_of loaded.program) loaded.run.steps_left
+    (known_of (state_of loaded.run.hart (paged_bytes loaded.run.memory)) loaded.known.registers
+    (paged_bytes loaded.known.marks) loaded.known.shifts)
+    c.in_ok-loaded.ensures.program c.in_ok-loaded.ensures.steps c.in_ok-loaded.ensures.known
+    undecided.instr (register_masks undecided.masks) (origins_in undecided.origins.kept)
+    c.in_ok-origin_lines.field-0.items c.in-Some.ensures.found c.in_ok-origin_lines.ensures
