@@ -85,6 +85,18 @@ fn load_text(
     Ok(text)
 }
 
+/// The line of what begins where a load stands.
+fn line_of(alloc: Global, program: &Program<'_>, pc: u32) -> Result<Vec<u8>, AllocError>
+    requires { encoding_at program.now pc ≢ None }
+    ensures { IfOk result (λ line. (encoding : Encoding)
+        × (encoding_at program.now pc ≡ Some encoding) × IsLineOfEncoding pc encoding line.items) }
+{
+    match encoding_at(alloc, program, pc)? {
+        Some(encoding) => encoding_line(alloc, pc, encoding),
+        None => unreachable!(),
+    }
+}
+
 /// The line of a register that is unknown since a load.
 fn load_line(
     alloc: Global,
@@ -99,10 +111,8 @@ fn load_line(
 {
     let mut text = Vec::from_slice(alloc, load)?;
     text.extend_from_slice(b", by ")?;
-    if let Some(encoding) = encoding_at(alloc, program, pc)? {
-        let line = encoding_line(alloc, pc, encoding)?;
-        text.extend_from_slice(line.as_slice())?;
-    }
+    let line = line_of(alloc, program, pc)?;
+    text.extend_from_slice(line.as_slice())?;
     Ok(text)
 }
 
