@@ -1,11 +1,16 @@
 """Functions for C as `factc function` writes them: their words by sections, and what their lines for a debugger say."""
 
+import collections
 import re
 
 WORD = re.compile(r"^    \.word 0x([0-9a-f]{8})  # (.*)$")
 HEAD = re.compile(r"^# (\w+): made by factc [\d.]+ function; (\d+) words, (\d+) bytes of stack, profile ([12])$")
 ARRAY = re.compile(r"^parameter (\d+): an array$")
 SIZES = {"bool": 1, "uint8": 1, "uint16": 2, "uint32": 4}
+# What a loop does at once in the code around a body: the words that a run zeroes, how many words or smaller elements a round copies,
+# from how many elements on there is a loop, whether arrays may go by words, and whether a near end of a loop takes one step.
+Pace = collections.namedtuple("Pace", "run words smaller loop by_words near_end")
+FAST, SMALL = Pace(16, 8, 4, 16, True, False), Pace(4, 1, 1, 4, False, True)
 
 
 class Section:
@@ -103,14 +108,19 @@ def near(number):
     return number < 2_048
 
 
-def wrapper_steps(parameters, offsets, frame, result, kept, pointers=None, blank=None, taken=None):
+def pace_of(code):
+    """The pace of a function that is made with this option."""
+    return SMALL if code == "-Os" else FAST
+
+
+def wrapper_steps(parameters, offsets, frame, result, kept, pointers=None, blank=None, taken=None, pace=FAST):
     """The steps of the code around a body, by the sizes of what it moves: parameters are pairs of a form and a type, in which an
     array's type has a length behind it, offsets are those of their slots, and of the result's where there is one, and so many of
     the caller's registers are kept. Pointers are those of the arrays, by their numbers; those that are not given are multiples
     of 4. So many words of the frame are zeroed one by one, or all of them in runs. Only these arrays are copied in, or all."""
     needed = max((number + 1 for number, (form, _, _) in enumerate(parameters[:8]) if form == "mut"), default=0)
     low, above = blocks(frame), blocks(4 * (kept + needed))
-    steps = (1 if above else 0) + kept + needed + framed(low, blank)
+    steps = (1 if above else 0) + kept + needed + framed(low, blank, pace)
     for number, (form, kind, length) in enumerate(parameters):
         stacked = load(low + above + 4 * (number - 8))
         if form == "word":
@@ -120,35 +130,39 @@ def wrapper_steps(parameters, offsets, frame, result, kept, pointers=None, blank
             head, back = (1, load(low + above - 4 * needed + 4 * number)) if number < 8 else (stacked, stacked)
             aligned = (pointers or {}).get(number, 0) % 4 == 0
             if taken is None or number in taken:
-                steps += head + address(offsets[number]) + (copied(kind, length, 3) if kind == "bool" else as_pointed(kind, length, aligned))
-            steps += back + address(offsets[number]) + as_pointed(kind, length, aligned) if form == "mut" else 0
+                steps += head + address(offsets[number]) + (copied(kind, length, 3, pace) if kind == "bool" else as_pointed(kind, length, aligned, pace))
+            steps += back + address(offsets[number]) + as_pointed(kind, length, aligned, pace) if form == "mut" else 0
     steps += load(result) if result is not None else 1
-    return steps + address(low) + 1 + kept + zeroed(low + above) + 15
+    return steps + address(low) + 1 + kept + zeroed(low + above, pace) + 15
 
 
-def zeroed(room):
-    """The words beside the runs of 16 and x2 moved by them, and for each run 16 stores, x2 moved and the branch."""
-    rest = room % 64 // 4
-    return (rest + 1 if rest else 0) + 18 * (room // 64)
+def zeroed(room, pace):
+    """The words beside the runs and x2 moved by them, and for each run its stores, x2 moved and the branch."""
+    rest = room % (4 * pace.run) // 4
+    return (rest + 1 if rest else 0) + (pace.run + 2) * (room // (4 * pace.run))
 
 
-def copied(kind, length, each):
-    """Fewer than 16 elements are copied by straight code, more by a loop over eight words at a time, or over four smaller elements,
-    with those that are left behind it."""
-    if length < 16:
+def copied(kind, length, each, pace):
+    """Few elements are copied by straight code, more by a loop over some at a time, with those that are left behind it."""
+    if length < pace.loop:
         return each * length
-    size = 8 if kind == "uint32" else 4
+    size = pace.words if kind == "uint32" else pace.smaller
     rounds = length // size
-    return constant(SIZES[kind] * size * rounds) + 1 + (size * each + 3) * rounds + each * (length % size)
+    return loop_end(SIZES[kind] * size * rounds, pace) + (size * each + 3) * rounds + each * (length % size)
 
 
-def as_pointed(kind, length, aligned):
+def loop_end(number, pace):
+    return 1 if pace.near_end and near(number) else constant(number) + 1
+
+
+def as_pointed(kind, length, aligned, pace):
     """Elements that are smaller than words are copied by words, from four on, where the pointer is a multiple of 4, and those
     that are no whole word behind them; else one by one, with a jump over the words. The test takes two steps."""
     by_word = 4 // SIZES[kind]
-    if by_word == 1 or length < 4:
-        return copied(kind, length, 2)
-    return 2 + (copied("uint32", length // by_word, 2) + 2 * (length % by_word) if aligned else copied(kind, length, 2) + 1)
+    if by_word == 1 or length < 4 or not pace.by_words:
+        return copied(kind, length, 2, pace)
+    by_words = copied("uint32", length // by_word, 2, pace) + 2 * (length % by_word)
+    return 2 + (by_words if aligned else copied(kind, length, 2, pace) + 1)
 
 
 def blocks(number):
@@ -156,9 +170,9 @@ def blocks(number):
     return (number + 15) // 16 * 16
 
 
-def framed(low, blank):
+def framed(low, blank, pace):
     if blank is None or not low:
-        return constant(low) + 1 + zeroed(low) if low else 0
+        return constant(low) + 1 + zeroed(low, pace) if low else 0
     return (1 if near(low) else constant(low) + 2) + blank
 
 

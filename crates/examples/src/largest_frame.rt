@@ -5,6 +5,7 @@ use codegen::image_fields::{ImageFields, ResultSlot, Slot};
 use functions::function_code::{function_words, room_of};
 use hepurita::FrameNeeds;
 use language::{Form, Kind, Label, Param, Profile};
+use linked_calls::Pace;
 use std::alloc::{AllocError, Global};
 use std::test::Fail;
 
@@ -57,7 +58,7 @@ fn has_these_words(rt: HostRuntime) -> Result<(), Fail> {
         blank: None,
         spared: Vec::new(rt.alloc()),
     };
-    let words = function_words(rt.alloc(), &image, &needs)?;
+    let words = function_words(rt.alloc(), &image, &needs, Pace::Fast)?;
     assert_eq!(rt; room_of(&image), 65_552);
     assert_eq!(rt; words.as_slice(), WORDS.as_slice());
     Ok(())

@@ -39,11 +39,12 @@ pub use Rattle.linked_calls.specs.FunctionCode.{all_fit, are_few, blank_code, fi
 pub use Rattle.linked_calls.specs.Written.{has_destination, is_written, writes, written_of}
 pub use Rattle.linked_calls.specs.FunctionCode.{clear_registers_code, copied_code, copied_in_code, copied_out_code}
 pub use Rattle.linked_calls.specs.FunctionCode.{array_code, by_alignment_code, by_words_code, elements_code}
-pub use Rattle.linked_calls.specs.FunctionCode.{goes_in_by_words, goes_out_by_words, passed_count, per_round}
+pub use Rattle.linked_calls.specs.FunctionCode.{bound_code, far_code, goes_in_by_words, goes_out_by_words, passed_count}
+pub use Rattle.linked_calls.specs.Paces.{few_elements, may_go_by_words, most_blanks, per_round, run_words}
 pub use Rattle.linked_calls.specs.FunctionCode.{copy_in_code, copy_out_code, down_code, element_meant_code}
 pub use Rattle.linked_calls.specs.FunctionCode.{frame_room, loads_code}
 pub use Rattle.linked_calls.specs.FunctionCode.{meant_code, next_code, places_code, rest_words, result_code, room_of}
-pub use Rattle.linked_calls.specs.FunctionCode.{rounds_code, runs_code}
+pub use Rattle.linked_calls.specs.FunctionCode.{rounds_code, run_count, runs_code}
 pub use Rattle.linked_calls.specs.FunctionCode.{store_by, stores_code}
 pub use Rattle.linked_calls.specs.FunctionCode.{until_equal, up_code, wipe_code, word_code, zeros_code}
 unfoldable pub use Rattle.linked_calls.specs.FunctionCode.{function_words}

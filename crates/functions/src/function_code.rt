@@ -15,6 +15,6 @@ mod sections;
 mod words;
 mod zeroing;
 
-pub use room::{above_frame, room_of};
+pub use room::{Around, above_frame, room_of};
 pub use sections::{enter_sections, leave_sections, section_code};
 pub use words::{body, function_words};

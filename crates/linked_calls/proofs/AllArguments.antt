@@ -32,6 +32,7 @@ use Rattle.linked_calls.proofs.SectionSteps.{arguments_steps}
 use Rattle.linked_calls.proofs.Rooms.{RoomNumbers, outside_frame}
 use Rattle.linked_calls.proofs.SameRegisters.{IsNone, none_of}
 use Rattle.linked_calls.proofs.Words.{word_runs}
+use Rattle.linked_calls.specs.declared.pace.Pace.{Pace}
 
 -- the setting of a call: its code, and the accesses that it may make
 abbrev pub call_setting : Fields → MachineCode → CallSite → Setting
@@ -349,26 +350,26 @@ module _ (image : Fields) (site : CallSite) where
         (numbers_same s.bytes d.bytes (element_bytes slot.param.kind) (site.pointers i) slot.param.length
         (λ x from to. passes.outside x (array_outside image site i slot readable x from to)))
 
-    array_runs : (i : ℕ) (slot : Slot) → i < length image.slots → KnownArray i slot
-        → Runs z (taken_steps image i slot (site.pointers i)) (argument_code image i slot FixedArray)
+    array_runs : (pace : Pace) (i : ℕ) (slot : Slot) → i < length image.slots → KnownArray i slot
+        → Runs z (taken_steps image pace i slot (site.pointers i)) (argument_code image pace i slot FixedArray)
         (TakingBegins i (λ s. IsPassed site s i slot FixedArray)) (TakesOne false i slot FixedArray)
-    array_runs i slot few known =
+    array_runs pace i slot few known =
         let at = room_base image site + slot.offset in
         weaken_runs z {P' = TakingBegins i (λ s. IsPassed site s i slot FixedArray)} {R' = TakesOne false i slot FixedArray}
         (copies_run image slot (spot_at i) known.can z (stacked_allowed i few)
         (λ a size lies. inr (known.reads a size lies))
         (λ a size lies. inl (on_stack at (array_bytes slot) (omega arith)
-        (slot_within slot (array_bytes slot) known.inside) a size lies)))
+        (slot_within slot (array_bytes slot) known.inside) a size lies)) pace)
         (array_begins i slot few known)
         (λ d t begins copied. record {
           bytes = λ s passes. copied.bytes ∙ array_is i slot known.readable s d passes;
           others = λ q none other. copied.others q none.0 none.1.0 none.1.1.0 none.1.1.1.0;
         })
 
-    argument_runs : (i : ℕ) (slot : Slot) (form : Form) → i < length image.slots → IsKnown i slot form
-        → Runs z (argument_steps image site.pointers i slot form) (argument_code image i slot form)
+    argument_runs : (pace : Pace) (i : ℕ) (slot : Slot) (form : Form) → i < length image.slots → IsKnown i slot form
+        → Runs z (argument_steps image pace site.pointers i slot form) (argument_code image pace i slot form)
         (TakingBegins i (λ s. IsPassed site s i slot form)) (TakesOne false i slot form)
-    argument_runs i slot SingleWord few known =
+    argument_runs pace i slot SingleWord few known =
         let under = room in
         let ends = slot_within slot 4 known.inside in
         weaken_runs z {P' = TakingBegins i (λ s. IsPassed site s i slot SingleWord)} {R' = TakesOne false i slot SingleWord}
@@ -385,10 +386,10 @@ module _ (image : Fields) (site : CallSite) where
               (Word (meant slot.param.kind (unwrap_or o 0)))) (passes.raw i (omega arith) few);
           others = λ q none other. put.others q other none.1.1.1.0;
         })
-    argument_runs i slot FixedArray few known = array_runs i slot few known
-    argument_runs i slot MutableArray few known =
+    argument_runs pace i slot FixedArray few known = array_runs pace i slot few known
+    argument_runs pace i slot MutableArray few known =
         weaken_runs z {P' = TakingBegins i (λ s. IsPassed site s i slot MutableArray)}
-        {R' = TakesOne false i slot MutableArray} (array_runs i slot few known.known)
+        {R' = TakesOne false i slot MutableArray} (array_runs pace i slot few known.known)
         (λ d begins. record {
           stack = begins.stack;
           bytes = begins.bytes;
@@ -413,28 +414,28 @@ module _ (image : Fields) (site : CallSite) where
           others = λ q none other. refl;
         })
 
-    needed_runs : (skipped : Bool) (i : ℕ) (slot : Slot) (form : Form) → i < length image.slots → IsKnown i slot form
+    needed_runs : (pace : Pace) (skipped : Bool) (i : ℕ) (slot : Slot) (form : Form) → i < length image.slots → IsKnown i slot form
         → (skipped ≡ true → is_open form slot.param.kind ≡ true)
-        → Runs z (if skipped then 0 else argument_steps image site.pointers i slot form)
-        (if skipped then [] else argument_code image i slot form)
+        → Runs z (if skipped then 0 else argument_steps image pace site.pointers i slot form)
+        (if skipped then [] else argument_code image pace i slot form)
         (TakingBegins i (λ s. IsPassed site s i slot form)) (TakesOne skipped i slot form)
-    needed_runs true i slot form few known opens = skipped_runs i slot form known (opens refl)
-    needed_runs false i slot form few known opens = argument_runs i slot form few known
+    needed_runs pace true i slot form few known opens = skipped_runs i slot form known (opens refl)
+    needed_runs pace false i slot form few known opens = argument_runs pace i slot form few known
 
     -- all of them
-    pub arguments_runs : (spared : List Bool) (i : ℕ) (slots : List Slot) → i + length slots ≡ length image.slots
+    pub arguments_runs : (pace : Pace) (spared : List Bool) (i : ℕ) (slots : List Slot) → i + length slots ≡ length image.slots
         → AreKnown i slots
-        → Runs z (arguments_steps image site.pointers spared i slots) (arguments_code image spared i slots)
+        → Runs z (arguments_steps image pace site.pointers spared i slots) (arguments_code image pace spared i slots)
         (TakingBegins i (λ s. ArePassed site s i slots)) (TakesAll spared i slots)
-    arguments_runs spared i [] count known =
+    arguments_runs pace spared i [] count known =
         no_code z (λ d begins. record { bytes = λ s passes. refl; others = λ q none. refl })
-    arguments_runs spared i (slot ∷ slots) count known =
+    arguments_runs pace spared i (slot ∷ slots) count known =
         let form = slot.param.form in
         let skipped = is_skipped spared i slot in
         let under = room in
         then_runs z
         (weaken_runs z {P' = TakingBegins i (λ s. ArePassed site s i (slot ∷ slots))} {R' = TakesOne skipped i slot form}
-        (needed_runs skipped i slot form (omega arith) known.0
+        (needed_runs pace skipped i slot form (omega arith) known.0
         (λ is. (and_parts (unwrap_or (slice_get spared i) false) (is_open form slot.param.kind) is).1))
         (λ d begins. record {
           stack = begins.stack;
@@ -445,7 +446,7 @@ module _ (image : Fields) (site : CallSite) where
           given = begins.given.0;
         })
         (λ d t begins takes. takes))
-        (arguments_runs spared (i + 1) slots (omega arith) known.1)
+        (arguments_runs pace spared (i + 1) slots (omega arith) known.1)
         (λ d t begins takes.
         let s = begins.call in
         let made = takes.bytes s begins.passes in

@@ -19,6 +19,7 @@ use Rattle.linked_calls.proofs.SectionSteps.{output_steps, outputs_steps}
 use Rattle.linked_calls.proofs.Rooms.{RoomNumbers}
 use Rattle.linked_calls.proofs.SameRegisters.{IsNone, same_beside}
 use Rattle.linked_calls.proofs.Staying.{stay_ready}
+use Rattle.linked_calls.specs.declared.pace.Pace.{Pace}
 
 -- the bytes are those that a function gives, and no register has changed but those that copying writes
 pub record HandsBack (goal : Data → ByteMap) (s t : Data) : Type 0 where
@@ -54,14 +55,14 @@ module _ (image : Fields) (code : MachineCode) (site : CallSite) (numbers : Room
   longer : (a : ℕ) (size : Size) → IsOnStack base site.stack base a size → IsOnStack base end base a size
   longer a size lies = ((lies.0.0, omega (arith, lies.0.1)), lies.1)
 
-  output_runs : (i : ℕ) (slot : Slot) (form : Form) → IsKnown image site i slot form
-      → Runs z (output_steps image site.pointers i slot form) (copy_out_code image i slot form)
+  output_runs : (pace : Pace) (i : ℕ) (slot : Slot) (form : Form) → IsKnown image site i slot form
+      → Runs z (output_steps image pace site.pointers i slot form) (copy_out_code image pace i slot form)
       (ArgumentsBegin image site (λ bytes. IsReady image site bytes i slot form))
       (HandsBack (λ s. handed s.bytes i slot form))
-  output_runs i slot MutableArray known =
+  output_runs pace i slot MutableArray known =
       weaken_runs z {P' = ArgumentsBegin image site (λ bytes. IsReady image site bytes i slot MutableArray)}
       {R' = HandsBack (λ s. handed s.bytes i slot MutableArray)}
-      (handed_by image slot (spot_at image site i) known.back z
+      (handed_by image pace slot (spot_at image site i) known.back z
       (place_allowed image site code numbers (argument_offset image i) known.place.inside)
       (λ a size lies.
       inl (longer a size (on_stack image site code numbers (base + slot.offset) (array_bytes slot) (omega arith)
@@ -81,7 +82,7 @@ module _ (image : Fields) (code : MachineCode) (site : CallSite) (numbers : Room
         bytes = back.bytes;
         others = λ q none. back.others q none.0 none.1.0 none.1.1.0 none.1.1.1.0;
       })
-  output_runs i slot form known = no_code z (λ s begins. record { bytes = refl; others = λ q none. refl })
+  output_runs pace i slot form known = no_code z (λ s begins. record { bytes = refl; others = λ q none. refl })
 
   -- Only arrays change, and what is data stays data.
 
@@ -166,16 +167,16 @@ module _ (image : Fields) (code : MachineCode) (site : CallSite) (numbers : Room
       ∙ ap₂ (λ (b : ByteMap) (arrays : List (List ℕ)). with_arrays site b (i + 1) slots arrays)
       (sym (one_handed bytes i slot form rest)) (sym (one_behind bytes slot form rest))
 
-  handed_runs : (i : ℕ) (slots : List Slot) → i + length slots ≡ length image.slots → AreKnown image site i slots
-      → Runs z (outputs_steps image site.pointers i slots) (results_code image i slots)
+  handed_runs : (pace : Pace) (i : ℕ) (slots : List Slot) → i + length slots ≡ length image.slots → AreKnown image site i slots
+      → Runs z (outputs_steps image pace site.pointers i slots) (results_code image pace i slots)
       (ArgumentsBegin image site (λ bytes. AreReady image site bytes i slots))
       (HandsBack (λ s. all_handed s.bytes i slots))
-  handed_runs i [] count known = no_code z (λ s begins. record { bytes = refl; others = λ q none. refl })
-  handed_runs i (slot ∷ slots) count known =
+  handed_runs pace i [] count known = no_code z (λ s begins. record { bytes = refl; others = λ q none. refl })
+  handed_runs pace i (slot ∷ slots) count known =
       let form = slot.param.form in
       then_runs z
       (weaken_runs z {P' = ArgumentsBegin image site (λ bytes. AreReady image site bytes i (slot ∷ slots))}
-      {R' = HandsBack (λ s. handed s.bytes i slot form)} (output_runs i slot form known.0)
+      {R' = HandsBack (λ s. handed s.bytes i slot form)} (output_runs pace i slot form known.0)
       (λ s begins. record {
         stack = begins.stack;
         bytes = begins.bytes;
@@ -183,7 +184,7 @@ module _ (image : Fields) (code : MachineCode) (site : CallSite) (numbers : Room
         ready = begins.ready.0;
       })
       (λ s t begins takes. takes))
-      (handed_runs (i + 1) slots (omega arith) known.1)
+      (handed_runs pace (i + 1) slots (omega arith) known.1)
       (λ s t begins takes.
       let same = handed_data s.bytes i slot form begins.ready.0 in
       record {
@@ -201,12 +202,12 @@ module _ (image : Fields) (code : MachineCode) (site : CallSite) (numbers : Room
       })
 
   -- the outcome of each, as the slots hold it at the beginning
-  pub results_runs : AreKnown image site 0 image.slots
-      → Runs z (outputs_steps image site.pointers 0 image.slots) (results_code image 0 image.slots)
+  pub results_runs : (pace : Pace) → AreKnown image site 0 image.slots
+      → Runs z (outputs_steps image pace site.pointers 0 image.slots) (results_code image pace 0 image.slots)
       (ArgumentsBegin image site (λ bytes. AreReady image site bytes 0 image.slots))
       (HandsBack (λ s. with_arrays site s.bytes 0 image.slots (arrays_in base s.bytes image.slots)))
-  results_runs known =
-      weaken_runs z (handed_runs 0 image.slots (omega arith) known)
+  results_runs pace known =
+      weaken_runs z (handed_runs pace 0 image.slots (omega arith) known)
       (λ s begins. begins)
       (λ s t begins takes. record {
         bytes = takes.bytes ∙ all_handed_are s.bytes 0 image.slots known;

@@ -14,21 +14,22 @@ use Rattle.linked_calls.proofs.Below.{Observation, observed, results_in, room_ba
 use Rattle.linked_calls.proofs.Below.{SingleWord, CallSite, Slot, State, Step}
 use Rattle.linked_calls.proofs.Bytes.{IsOutside}
 use Rattle.linked_calls.proofs.SameRegisters.{AreSame}
+use Rattle.linked_calls.specs.declared.pace.Pace.{Pace}
 
 -- where the body begins, and the code behind it
-abbrev pub body_at : Fields → Needs → CallSite → ℕ
-body_at image needs site = site.entry + 4 * length (enter_code image needs)
+abbrev pub body_at : Fields → Needs → Pace → CallSite → ℕ
+body_at image needs pace site = site.entry + 4 * length (enter_code image needs pace)
 
-abbrev pub leave_at : Fields → Needs → CallSite → ℕ
-leave_at image needs site = body_at image needs site + 4 * length (body_words image.words)
+abbrev pub leave_at : Fields → Needs → Pace → CallSite → ℕ
+leave_at image needs pace site = body_at image needs pace site + 4 * length (body_words image.words)
 
 -- their steps, by where the arguments point
 
-abbrev pub enter_steps : Fields → Needs → (ℕ → ℕ) → ℕ
-enter_steps image needs pointers = sum (map (section_steps image pointers) (enter_sections image needs))
+abbrev pub enter_steps : Fields → Needs → Pace → (ℕ → ℕ) → ℕ
+enter_steps image needs pace pointers = sum (map (section_steps image pace pointers) (enter_sections image needs pace))
 
-abbrev pub leave_steps : Fields → (ℕ → ℕ) → ℕ
-leave_steps image pointers = sum (map (section_steps image pointers) (leave_sections image))
+abbrev pub leave_steps : Fields → Pace → (ℕ → ℕ) → ℕ
+leave_steps image pace pointers = sum (map (section_steps image pace pointers) (leave_sections image))
 
 -- what registers held stands in words from an address on
 abbrev pub AreSaved : ByteMap → (ℕ → ℕ) → ℕ → List ℕ → Type 0
@@ -78,8 +79,8 @@ IsOutsideRoom image site x = IsOutside (room_base image site) site.stack x
 -- Before the body.
 
 -- from a state in which the function is called to one in which its body begins
-pub record IsEntered (image : Fields) (needs : Needs) (site : CallSite) (s t : State) : Type 0 where
-  pub at_body : t.pc ≡ body_at image needs site
+pub record IsEntered (image : Fields) (needs : Needs) (pace : Pace) (site : CallSite) (s t : State) : Type 0 where
+  pub at_body : t.pc ≡ body_at image needs pace site
   pub begun : IsBegun image needs (room_base image site) (arguments_of image site s) t
   pub untouched : AreSame t.regs s.regs untouched_registers
   pub still : AreSame t.regs s.regs saved_registers
@@ -88,25 +89,25 @@ pub record IsEntered (image : Fields) (needs : Needs) (site : CallSite) (s t : S
   pub outside : (x : ℕ) → IsOutsideRoom image site x → t.bytes x ≡ s.bytes x
   pub there : AreData (room_base image site) site.stack t.bytes
 
-pub record EntersFrom (image : Fields) (needs : Needs) (code : MachineCode) (site : CallSite)
+pub record EntersFrom (image : Fields) (needs : Needs) (pace : Pace) (code : MachineCode) (site : CallSite)
     (list : List Observation) (s : State) : Type 0 where
   pub end : State
-  pub leads : LeadsWithin code (IsOfCall image site) (enter_steps image needs site.pointers) s list end
-  pub entered : IsEntered image needs site s end
+  pub leads : LeadsWithin code (IsOfCall image site) (enter_steps image needs pace site.pointers) s list end
+  pub entered : IsEntered image needs pace site s end
 
-pub record Enters (image : Fields) (needs : Needs) (code : MachineCode) (site : CallSite) : Type 0 where
+pub record Enters (image : Fields) (needs : Needs) (pace : Pace) (code : MachineCode) (site : CallSite) : Type 0 where
   pub shown : List Observation
-  pub runs : (s : State) → IsCalled image site s → EntersFrom image needs code site shown s
+  pub runs : (s : State) → IsCalled image site s → EntersFrom image needs pace code site shown s
 
 abbrev pub EnteringLeads : Type 0
-EnteringLeads = (image : Fields) (needs : Needs) (code : MachineCode) (site : CallSite) → IsImage image
-    → IsSite image needs code site → Enters image needs code site
+EnteringLeads = (image : Fields) (needs : Needs) (pace : Pace) (code : MachineCode) (site : CallSite) → IsImage image
+    → IsSite image needs pace code site → Enters image needs pace code site
 
 -- Behind the body.
 
 -- the body is done, of a call whose caller had these registers
-pub record CanLeave (image : Fields) (needs : Needs) (site : CallSite) (regs : ℕ → ℕ) (s : State) : Type 0 where
-  pub at_leave : s.pc ≡ leave_at image needs site
+pub record CanLeave (image : Fields) (needs : Needs) (pace : Pace) (site : CallSite) (regs : ℕ → ℕ) (s : State) : Type 0 where
+  pub at_leave : s.pc ≡ leave_at image needs pace site
   pub base : s.regs 2 ≡ room_base image site
   pub stack : regs 2 ≡ site.stack
   pub untouched : AreSame s.regs regs untouched_registers
@@ -118,20 +119,20 @@ pub record CanLeave (image : Fields) (needs : Needs) (site : CallSite) (regs : �
   pub there : AreData (room_base image site) (arguments_end image site) s.bytes
   pub ready : AreReady image site s.bytes 0 image.slots
 
-pub record LeavesFrom (image : Fields) (needs : Needs) (code : MachineCode) (site : CallSite) (list : List Observation) (regs : ℕ
+pub record LeavesFrom (image : Fields) (needs : Needs) (pace : Pace) (code : MachineCode) (site : CallSite) (list : List Observation) (regs : ℕ
     → ℕ) (s : State) : Type 0 where
   pub step_count : ℕ
-  pub counted : suc step_count ≡ leave_steps image site.pointers
+  pub counted : suc step_count ≡ leave_steps image pace site.pointers
   pub end : State
   pub leads : LeadsWithin code (IsOfCall image site) step_count s list end
-  pub at_last : end.pc ≡ site.entry + 4 * (length (function_words image needs) - 1)
+  pub at_last : end.pc ≡ site.entry + 4 * (length (function_words image needs pace) - 1)
   pub left : IsLeft image site regs s.bytes (results_in (room_base image site) image s.bytes) end
   pub goes_back : regs 1 % 4 ≡ 0 → Step code end (goes_on (observed end None) (moved_to end (regs 1)))
 
-pub record Leaves (image : Fields) (needs : Needs) (code : MachineCode) (site : CallSite) : Type 0 where
+pub record Leaves (image : Fields) (needs : Needs) (pace : Pace) (code : MachineCode) (site : CallSite) : Type 0 where
   pub shown : List Observation
-  pub runs : (regs : ℕ → ℕ) (s : State) → CanLeave image needs site regs s → LeavesFrom image needs code site shown regs s
+  pub runs : (regs : ℕ → ℕ) (s : State) → CanLeave image needs pace site regs s → LeavesFrom image needs pace code site shown regs s
 
 abbrev pub LeavesEverywhere : Type 0
-LeavesEverywhere = (image : Fields) (needs : Needs) (code : MachineCode) (site : CallSite) → IsImage image
-    → IsSite image needs code site → Leaves image needs code site
+LeavesEverywhere = (image : Fields) (needs : Needs) (pace : Pace) (code : MachineCode) (site : CallSite) → IsImage image
+    → IsSite image needs pace code site → Leaves image needs pace code site

@@ -20,6 +20,8 @@ use Rattle.linked_calls.proofs.Zeros.{MayZero, zeroed_runs}
 use Rattle.linked_calls.specs.Below.{Addi, Immediate}
 use Rattle.linked_calls.specs.FunctionCode.{all_fit, are_few, blank_code, blanks_code, fits_frame, frame_code}
 use Rattle.linked_calls.specs.FunctionCode.{lowered_code, partly_code, zeroed_code}
+use Rattle.linked_calls.specs.Paces.{most_blanks}
+use Rattle.linked_calls.specs.declared.pace.Pace.{Pace}
 
 -- the frame's words that have to be are zeros, x2 is its base, and nothing else has changed but bytes of the frame and x5
 pub record IsReadied (blank : Blank) (size bottom room : ℕ) (s t : Data) : Type 0 where
@@ -273,10 +275,10 @@ module _ (z : Setting) (size bottom room : ℕ) (even : bottom % 16 ≡ 0) (whol
   partly_runs offsets holds fit false some =
       some_runs offsets (omega (arith, eqb-false room 0 some)) fit
 
-  whole_runs : (blank : Blank) → size ≤ room
-      → Runs z (frame_steps room) (zeroed_code room) (HasFrame bottom room) (IsReadied blank size bottom room)
-  whole_runs blank holds =
-      weaken_runs z (zeroed_runs z bottom room even whole below may)
+  whole_runs : (pace : Pace) (blank : Blank) → size ≤ room
+      → Runs z (frame_steps pace room) (zeroed_code pace room) (HasFrame bottom room) (IsReadied blank size bottom room)
+  whole_runs pace blank holds =
+      weaken_runs z (zeroed_runs pace z bottom room even whole below may)
       (λ s has. has)
       (λ s t has zeroed. record {
         stack = zeroed.stack;
@@ -287,16 +289,16 @@ module _ (z : Setting) (size bottom room : ℕ) (even : bottom % 16 ≡ 0) (whol
         outside = zeroed.zeroed.outside;
       })
 
-  frame_by : (offsets : List ℕ) → size ≤ room → (few : Bool) → are_few room offsets ≡ few
-      → Runs z (if few then length (partly_code room offsets) else frame_steps room)
-      (if few then partly_code room offsets else zeroed_code room) (HasFrame bottom room)
+  frame_by : (pace : Pace) (offsets : List ℕ) → size ≤ room → (few : Bool) → are_few pace room offsets ≡ few
+      → Runs z (if few then length (partly_code room offsets) else frame_steps pace room)
+      (if few then partly_code room offsets else zeroed_code pace room) (HasFrame bottom room)
       (IsReadied (Some offsets) size bottom room)
-  frame_by offsets holds true few =
-      partly_runs offsets holds (and_parts (nat_le (length offsets) 32) (all_fit room offsets) few).1 (room == 0) refl
-  frame_by offsets holds false many = whole_runs (Some offsets) holds
+  frame_by pace offsets holds true few =
+      partly_runs offsets holds (and_parts (nat_le (length offsets) (most_blanks pace)) (all_fit room offsets) few).1 (room == 0) refl
+  frame_by pace offsets holds false many = whole_runs pace (Some offsets) holds
 
-  pub frame_readied : (blank : Blank) → size ≤ room
-      → Runs z (steps_for room blank) (frame_code room blank) (HasFrame bottom room)
+  pub frame_readied : (pace : Pace) (blank : Blank) → size ≤ room
+      → Runs z (steps_for pace room blank) (frame_code pace room blank) (HasFrame bottom room)
       (IsReadied blank size bottom room)
-  frame_readied None holds = whole_runs None holds
-  frame_readied (Some offsets) holds = frame_by offsets holds (are_few room offsets) refl
+  frame_readied pace None holds = whole_runs pace None holds
+  frame_readied pace (Some offsets) holds = frame_by pace offsets holds (are_few pace room offsets) refl

@@ -28,32 +28,33 @@ use Rattle.linked_calls.proofs.Unwritten.{alone, alone_writes_none, IsPartOf, pa
 use Rattle.linked_calls.proofs.Unwritten.{steps_keep}
 use Rattle.linked_calls.proofs.Staying.{arrays_agree, stay_ready}
 use Rattle.linked_calls.proofs.WithinParameters.{arguments_within}
+use Rattle.linked_calls.specs.declared.pace.Pace.{Pace}
 
 -- Places.
 
 -- the body's words alone
-abbrev body_alone : Fields → Needs → MachineCode → CallSite → MachineCode
-body_alone image needs code site = alone code (body_at image needs site) (body_words image.words)
+abbrev body_alone : Fields → Needs → Pace → MachineCode → CallSite → MachineCode
+body_alone image needs pace code site = alone code (body_at image needs pace site) (body_words image.words)
 
-is_placed : (image : Fields) {needs : Needs} (code : MachineCode) (site : CallSite) → IsSite image needs code site
-    → IsPlaced image (body_alone image needs code site) (body_at image needs site) (room_base image site)
-is_placed image {needs = needs} code site is = record {
+is_placed : (image : Fields) {needs : Needs} {pace : Pace} (code : MachineCode) (site : CallSite) → IsSite image needs pace code site
+    → IsPlaced image (body_alone image needs pace code site) (body_at image needs pace site) (room_base image site)
+is_placed image {needs = needs} {pace = pace} code site is = record {
   observed = is.observed;
-  words = stands_alone code (body_at image needs site) (body_words image.words) (body_stands image code site is);
+  words = stands_alone code (body_at image needs pace site) (body_words image.words) (body_stands image code site is);
   frame_aligned = omega arith;
   frame_ends = omega arith;
 }
 
 -- they are a part of the code
-body_part : (image : Fields) {needs : Needs} (code : MachineCode) (site : CallSite) → IsSite image needs code site
-    → IsPartOf (body_alone image needs code site) code
-body_part image {needs = needs} code site is =
-    part_of code (body_at image needs site) (body_words image.words) (body_stands image code site is)
+body_part : (image : Fields) {needs : Needs} {pace : Pace} (code : MachineCode) (site : CallSite) → IsSite image needs pace code site
+    → IsPartOf (body_alone image needs pace code site) code
+body_part image {needs = needs} {pace = pace} code site is =
+    part_of code (body_at image needs pace site) (body_words image.words) (body_stands image code site is)
 
 -- Accesses.
 
 -- the body's, with x2 at the frame's base
-inside_is_of_call : (image : Fields) {needs : Needs} (code : MachineCode) (site : CallSite) → IsSite image needs code site
+inside_is_of_call : (image : Fields) {needs : Needs} {pace : Pace} (code : MachineCode) (site : CallSite) → IsSite image needs pace code site
     → (sp : ℕ) (event : Option Event) → sp ≡ room_base image site
     → IsInside (room_base image site) image.frame_bytes event → IsOfCall image site sp event
 inside_is_of_call image code site is sp None at inside = tt
@@ -65,12 +66,12 @@ inside_is_of_call image code site is sp (Some event) at inside = tt
 
 -- Steps.
 
-steps_around : (image : Fields) (needs : Needs) (pointers : ℕ → ℕ)
-    → around_steps image needs pointers ≡ enter_steps image needs pointers + leave_steps image pointers
-steps_around image needs pointers =
-    ap sum (map-append (section_steps image pointers) (enter_sections image needs) (leave_sections image))
-    ∙ sum_by-append (λ x. x) (map (section_steps image pointers) (enter_sections image needs))
-    (map (section_steps image pointers) (leave_sections image))
+steps_around : (image : Fields) (needs : Needs) (pace : Pace) (pointers : ℕ → ℕ)
+    → around_steps image needs pace pointers ≡ enter_steps image needs pace pointers + leave_steps image pace pointers
+steps_around image needs pace pointers =
+    ap sum (map-append (section_steps image pace pointers) (enter_sections image needs pace) (leave_sections image))
+    ∙ sum_by-append (λ x. x) (map (section_steps image pace pointers) (enter_sections image needs pace))
+    (map (section_steps image pace pointers) (leave_sections image))
 
 steps_counted : (enter body leave around : ℕ) (rest : ℕ) → around ≡ enter + leave → suc rest ≡ leave
     → suc (enter + (body + rest)) ≡ around + body
@@ -78,12 +79,12 @@ steps_counted enter body leave around rest e counted = omega arith
 
 -- The body, between the two.
 
-module _ (image : Fields) {needs : Needs} (code : MachineCode) (site : CallSite) (is : IsSite image needs code site)
+module _ (image : Fields) {needs : Needs} {pace : Pace} (code : MachineCode) (site : CallSite) (is : IsSite image needs pace code site)
     (s : State)
     (called : IsCalled image site s)
-    (before : List Observation) (entered : EntersFrom image needs code site before s)
+    (before : List Observation) (entered : EntersFrom image needs pace code site before s)
     (list : List Observation)
-    (run : BodyRun image (body_alone image needs code site) (body_at image needs site) (room_base image site) entered.end list) where
+    (run : BodyRun image (body_alone image needs pace code site) (body_at image needs pace site) (room_base image site) entered.end list) where
   same_above : (x : ℕ) → saved_at image site ≤ x → run.end.bytes x ≡ entered.end.bytes x
   same_above x above = run.beside x (inr (omega arith))
 
@@ -121,7 +122,7 @@ module _ (image : Fields) {needs : Needs} (code : MachineCode) (site : CallSite)
       (λ (above : site.stack ≤ x). ap is_some (same_outside x (inr above)) ∙ called.there x low high)
       (cases_lt x site.stack)
 
-  can_leave : CanLeave image needs site s.regs run.end
+  can_leave : CanLeave image needs pace site s.regs run.end
   can_leave = record {
     at_leave = run.behind;
     base = run.base;
@@ -135,7 +136,7 @@ module _ (image : Fields) {needs : Needs} (code : MachineCode) (site : CallSite)
     left = left_then (body_words image.words) saved_registers run.end.regs entered.end.regs s.regs
         (left_of (body_words image.words) saved_registers run.end.regs entered.end.regs
         (λ r none. steps_keep r
-        (alone_writes_none r code (body_at image needs site) (body_words image.words) none) run.at_base))
+        (alone_writes_none r code (body_at image needs pace site) (body_words image.words) none) run.at_base))
         (left_same (body_words image.words) saved_registers entered.end.regs s.regs entered.entered.still);
     bytes = bytes_stay (bytes_stay called.bytes entered.leads) run.at_base;
     there = all_there;
@@ -159,19 +160,19 @@ module _ (image : Fields) {needs : Needs} (code : MachineCode) (site : CallSite)
 
 -- The call.
 
-module _ (program : ProgramTree) (p : ProcedureTree) (image : Fields) (needs : Needs) (code : MachineCode)
-    (site : CallSite) (is : IsSite image needs code site)
-    (enters : Enters image needs code site)
-    (linked : IsLinked program p image (IsBegun image needs (room_base image site)) (body_alone image needs code site) (body_at image needs site) (room_base image site))
-    (leaves : Leaves image needs code site) where
+module _ (program : ProgramTree) (p : ProcedureTree) (image : Fields) (needs : Needs) (pace : Pace) (code : MachineCode)
+    (site : CallSite) (is : IsSite image needs pace code site)
+    (enters : Enters image needs pace code site)
+    (linked : IsLinked program p image (IsBegun image needs (room_base image site)) (body_alone image needs pace code site) (body_at image needs pace site) (room_base image site))
+    (leaves : Leaves image needs pace code site) where
   abbrev shown_on : List Arg → List Observation
   shown_on args = enters.shown ++ (linked.shown args ++ leaves.shown)
 
-  returns_by : (s : State) (called : IsCalled image site s) (entered : EntersFrom image needs code site enters.shown s)
-      (body : RunsLinked program image (body_alone image needs code site) (body_at image needs site) (room_base image site) (arguments_of image site s)
+  returns_by : (s : State) (called : IsCalled image site s) (entered : EntersFrom image needs pace code site enters.shown s)
+      (body : RunsLinked program image (body_alone image needs pace code site) (body_at image needs pace site) (room_base image site) (arguments_of image site s)
       entered.end (linked.shown (arguments_of image site s)))
-      → LeavesFrom image needs code site leaves.shown s.regs body.run.end
-      → CallReturns program image needs code site s (shown_on (arguments_of image site s))
+      → LeavesFrom image needs pace code site leaves.shown s.regs body.run.end
+      → CallReturns program image needs pace code site s (shown_on (arguments_of image site s))
   returns_by s called entered body left =
       let args = arguments_of image site s in
       let run = body.run in
@@ -180,20 +181,20 @@ module _ (program : ProgramTree) (p : ProcedureTree) (image : Fields) (needs : N
       record {
         results = results_in (room_base image site) image run.end.bytes;
         means = body.outcome;
-        step_count = enter_steps image needs site.pointers + (run.step_count + left.step_count);
+        step_count = enter_steps image needs pace site.pointers + (run.step_count + left.step_count);
         end = left.end;
         leads = LeadsBy-append entered.leads (LeadsBy-append (steps_in (body_part image code site is) body_within) left.leads);
         body_steps = run.step_count;
         within_steps = run.within_steps;
-        counted = steps_counted (enter_steps image needs site.pointers) run.step_count (leave_steps image site.pointers)
-            (around_steps image needs site.pointers) left.step_count (steps_around image needs site.pointers) left.counted;
+        counted = steps_counted (enter_steps image needs pace site.pointers) run.step_count (leave_steps image pace site.pointers)
+            (around_steps image needs pace site.pointers) left.step_count (steps_around image needs pace site.pointers) left.counted;
         at_last = left.at_last;
         left = is_left image code site is s called enters.shown entered (linked.shown args) run _ left.end left.left;
         goes_back = left.goes_back;
       }
 
   returns : (s : State) → IsCalled image site s
-      → CallReturns program image needs code site s (shown_on (arguments_of image site s))
+      → CallReturns program image needs pace code site s (shown_on (arguments_of image site s))
   returns s called =
       let args = arguments_of image site s in
       let entered = enters.runs s called in
@@ -203,7 +204,7 @@ module _ (program : ProgramTree) (p : ProcedureTree) (image : Fields) (needs : N
       (leaves.runs s.regs body.run.end
       (can_leave image code site is s called enters.shown entered (linked.shown args) body.run))
 
-  is_callable : IsCallable program p image needs code site
+  is_callable : IsCallable program p image needs pace code site
   is_callable = record {
     shown = shown_on;
     runs = returns;
@@ -213,7 +214,7 @@ module _ (program : ProgramTree) (p : ProcedureTree) (image : Fields) (needs : N
   }
 
 pub calls_are_linked_from : EnteringLeads → LeavesEverywhere → CallsAreLinked
-calls_are_linked_from entering leaving program before p image needs compiled starts fields code site is =
-    is_callable program p image needs code site is (entering image needs code site fields is)
-    (starts (body_alone image needs code site) (body_at image needs site) (room_base image site) (is_placed image code site is))
-    (leaving image needs code site fields is)
+calls_are_linked_from entering leaving program before p image needs pace compiled starts fields code site is =
+    is_callable program p image needs pace code site is (entering image needs pace code site fields is)
+    (starts (body_alone image needs pace code site) (body_at image needs pace site) (room_base image site) (is_placed image code site is))
+    (leaving image needs pace code site fields is)

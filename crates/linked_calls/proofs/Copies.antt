@@ -23,6 +23,7 @@ use Rattle.linked_calls.proofs.Parts.{address_runs, load_runs}
 use Rattle.linked_calls.specs.Below.{Addi, Immediate, Word}
 use Rattle.linked_calls.proofs.Pieces.{does, MayAt, placed}
 use Rattle.rv_machine.specs.declared.observation.Event.TheVariants as event
+use Rattle.linked_calls.specs.declared.pace.Pace.{Pace}
 
 -- a move of a word
 moved : (x v : ℕ) → x ≡ v → v < 2 ^ 32 → sum_of x (sign_extended 12 0) ≡ v
@@ -89,17 +90,17 @@ module _ (slot : Slot) (spot : Pointed) (place : ℕ) (can : CanBeCopied slot sp
 
     -- The whole.
 
-    abbrev steps : ℕ
-    steps = array_steps (element_code inward) (goes_by_words inward slot.param.kind) slot.param.kind slot.param.length
+    abbrev steps : Pace → ℕ
+    steps pace = array_steps pace (element_code inward) (goes_by_words inward slot.param.kind) slot.param.kind slot.param.length
         spot.pointer
 
-    pub array_runs : Runs z (length (places_code pointer slot) + steps)
+    pub array_runs : (pace : Pace) → Runs z (length (places_code pointer slot) + steps pace)
         (places_code pointer slot
-        ++ array_code (element_code inward) (goes_by_words inward slot.param.kind) slot.param.kind slot.param.length)
+        ++ array_code pace (element_code inward) (goes_by_words inward slot.param.kind) slot.param.kind slot.param.length)
         (HasArray slot spot argument) (HasArrayCopied inward array)
-    array_runs =
+    array_runs pace =
         makes_then z {P = HasArray slot spot argument} {f = located} {S = HasArrayCopied inward array} places_run
-        (whole_runs inward z array can_copy) places_begin
+        (whole_runs pace inward z array can_copy) places_begin
         (λ s u has copies. record {
           bytes = copies.bytes;
           others = λ q g h l m. copies.others q g h l m
@@ -168,29 +169,29 @@ module _ (image : Fields) (slot : Slot) (spot : Pointed) (can : CanBeCopied slot
       loaded_runs slot spot (place_before image spot) can true z loads stores argument
       (stacked_offset image spot.index) refl (λ s. ap (λ b. passed_by b s) h) (place (ltb-false spot.index 8 h))
 
-  pub taken_runs : Runs z (taken_steps image spot.index slot spot.pointer)
-      (argument_code image spot.index slot FixedArray) (HasArray slot spot argument) (IsArrayTaken slot spot)
-  taken_runs =
+  pub taken_runs : (pace : Pace) → Runs z (taken_steps image pace spot.index slot spot.pointer)
+      (argument_code image pace spot.index slot FixedArray) (HasArray slot spot argument) (IsArrayTaken slot spot)
+  taken_runs pace =
       weaken_runs z {P' = HasArray slot spot argument} {R' = IsArrayTaken slot spot}
       (array_runs slot spot (place_before image spot) can true z loads stores argument
-      (pointer_in_code image spot.index) (pointer_by (nat_lt spot.index 8) refl)) (λ s has. has)
+      (pointer_in_code image spot.index) (pointer_by (nat_lt spot.index 8) refl) pace) (λ s has. has)
       (λ s t has copied. record { bytes = copied.bytes; others = copied.others })
 
 -- from a slot to where the argument points
-pub handed_runs : (image : Fields) (slot : Slot) (spot : Pointed) → CanBeCopied slot spot (place_behind image spot)
+pub handed_runs : (image : Fields) (pace : Pace) (slot : Slot) (spot : Pointed) → CanBeCopied slot spot (place_behind image spot)
     → (z : Setting)
     → z.allowed spot.frame (Some (event.Load (place_behind image spot) Word))
     → MayAt z spot.frame event.Load (slot_of slot spot) (slot_of slot spot + array_bytes slot)
     → MayAt z spot.frame event.Store spot.pointer (spot.pointer + array_bytes slot)
-    → Runs z (handed_steps image spot.index slot spot.pointer) (copy_out_code image spot.index slot MutableArray)
+    → Runs z (handed_steps image pace spot.index slot spot.pointer) (copy_out_code image pace spot.index slot MutableArray)
     (HasArray slot spot (λ s. number_at s.bytes 4 (place_behind image spot))) (IsHandedBack slot spot)
-handed_runs image slot spot can z place loads stores =
+handed_runs image pace slot spot can z place loads stores =
     let argument = λ (s : Data). number_at s.bytes 4 (place_behind image spot) in
     weaken_runs z {P' = HasArray slot spot argument} {R' = IsHandedBack slot spot}
     (array_runs slot spot (place_behind image spot) can false z loads stores argument
     (pointer_out_code image spot.index)
     (loaded_runs slot spot (place_behind image spot) can false z loads stores argument
-    (argument_offset image spot.index) refl (λ s. refl) place)) (λ s has. has)
+    (argument_offset image spot.index) refl (λ s. refl) place) pace) (λ s has. has)
     (λ s t has copied. record {
       bytes = copied.bytes
           ∙ ap (λ (vs : List ℕ). with_numbers s.bytes (element_bytes slot.param.kind) spot.pointer vs)
@@ -206,16 +207,16 @@ copying code slot spot place from to = record {
 }
 
 pub array_is_taken : ArrayIsTaken
-array_is_taken code start image slot spot there can =
+array_is_taken code start image pace slot spot there can =
     let z = copying code slot spot (place_before image spot) spot.pointer (slot_of slot spot) in
-    let is = argument_code image spot.index slot FixedArray in
+    let is = argument_code image pace spot.index slot FixedArray in
     does z start is (placed code start is there)
     (taken_runs image slot spot can z (λ many. (inl refl, refl)) (λ a size lies. (inr lies, refl))
-    (λ a size lies. (lies, refl)))
+    (λ a size lies. (lies, refl)) pace)
 
 pub array_is_handed_back : ArrayIsHandedBack
-array_is_handed_back code start image slot spot there can =
+array_is_handed_back code start image pace slot spot there can =
     let z = copying code slot spot (place_behind image spot) (slot_of slot spot) spot.pointer in
-    let is = copy_out_code image spot.index slot MutableArray in
+    let is = copy_out_code image pace spot.index slot MutableArray in
     does z start is (placed code start is there)
-    (handed_runs image slot spot can z (inl refl, refl) (λ a size lies. (inr lies, refl)) (λ a size lies. (lies, refl)))
+    (handed_runs image pace slot spot can z (inl refl, refl) (λ a size lies. (inr lies, refl)) (λ a size lies. (lies, refl)))

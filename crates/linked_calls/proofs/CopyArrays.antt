@@ -13,11 +13,13 @@ use Rattle.linked_calls.proofs.Below.{numbers_at, OthersAsBefore, passed_count, 
 use Rattle.linked_calls.proofs.Below.{with_numbers, with_result}
 use Rattle.linked_calls.proofs.Alignment.{aligned_runs, TestsPointer, unaligned_runs}
 use Rattle.linked_calls.proofs.Bytes.{IsOutside, is_some-with_numbers, numbers_count, numbers_outside, numbers_same}
-use Rattle.linked_calls.proofs.CopyElements.{chosen, copied_value, element_code}
+use Rattle.linked_calls.proofs.CopyElements.{chosen, copied_value, element_code, few_enough, left_few, rounds_split}
 use Rattle.linked_calls.proofs.CopyLengths.{by_words_short, copied_short}
 use Rattle.linked_calls.proofs.CopyNumbers.{BeginsCopy, CanCopy, copied, copy_runs, HasCopied, Numbers, straight_runs_on}
 use Rattle.linked_calls.proofs.MovedBytes.{goes_by_words, values_same, words_same, words_then}
 use Rattle.linked_calls.proofs.Pieces.{MayAt}
+use Rattle.linked_calls.specs.Paces.{few_elements, may_go_by_words, per_round}
+use Rattle.linked_calls.specs.declared.pace.Pace.{Pace}
 use Rattle.rv_machine.specs.declared.observation.Event.TheVariants as event
 
 -- Of two places that are chosen, and so many bytes on from both.
@@ -46,9 +48,9 @@ bytes_are : (kind : Kind) (k : ℕ)
 bytes_are Boolean k = omega arith
 bytes_are kind k = omega arith
 
-left_few : (kind : Kind) (k : ℕ) → k % per_word kind < 16
-left_few Boolean k = omega arith
-left_few kind k = omega arith
+rest_few : (kind : Kind) (k : ℕ) → k % per_word kind < 16
+rest_few Boolean k = omega arith
+rest_few kind k = omega arith
 
 words_even : (kind : Kind) (a i j : ℕ) → a % element_bytes kind ≡ 0
     → (a + 4 * i + 4 * j) % element_bytes kind ≡ 0
@@ -63,13 +65,19 @@ pub word_even : (kind : Kind) (a : ℕ) → a % 4 ≡ 0 → a % element_bytes ki
 word_even Boolean a even = omega arith
 word_even kind a even = omega arith
 
-passed_few : (count : ℕ) → (passed_count Uint32 count < 16) × (passed_count Uint32 count ≤ count)
-passed_few count = by (nat_lt count 16) refl
+passed_few : (pace : Pace) (count : ℕ) → (passed_count pace Uint32 count < 16) × (passed_count pace Uint32 count ≤ count)
+passed_few pace count = by (nat_lt count (few_elements pace)) refl
   where
-    by : (b : Bool) → nat_lt count 16 ≡ b
-        → ((if b then count else count % 8) < 16) × ((if b then count else count % 8) ≤ count)
-    by true few = (ltb-true count 16 few, omega arith)
-    by false many = (omega arith, omega arith)
+    by : (b : Bool) → nat_lt count (few_elements pace) ≡ b
+        → ((if b then count else count % per_round pace Uint32) < 16)
+        × ((if b then count else count % per_round pace Uint32) ≤ count)
+    by true few =
+        let below = ltb-true count (few_elements pace) few in
+        (omega (arith, few_enough pace), omega arith)
+    by false many =
+        let left = left_few pace Uint32 count in
+        let all = rounds_split pace Uint32 count in
+        (omega arith, omega arith)
 
 -- so many elements, with x2, and with x5 and x6 where they are copied between
 pub record CopiedArray : Type 0 where
@@ -118,7 +126,7 @@ pub record HasArrayCopied (inward : Bool) (array : CopiedArray) (s t : Data) : T
       (numbers_at s.bytes (element_bytes array.kind) (from_of inward array) array.count))
   pub others : OthersAsBefore s t
 
-module _ (inward : Bool) (z : Setting) (array : CopiedArray) (can : CanCopyArray inward z array) where
+module _ (pace : Pace) (inward : Bool) (z : Setting) (array : CopiedArray) (can : CanCopyArray inward z array) where
   abbrev kind : Kind
   kind = array.kind
 
@@ -191,7 +199,7 @@ module _ (inward : Bool) (z : Setting) (array : CopiedArray) (can : CanCopyArray
   abbrev alone : Numbers
   alone = part kind k 0 0
 
-  alone_runs : Runs z (copied_steps (code kind) kind k) (copied_code (code kind) kind k) (BeginsArray inward array)
+  alone_runs : Runs z (copied_steps pace (code kind) kind k) (copied_code pace (code kind) kind k) (BeginsArray inward array)
       (HasArrayCopied inward array)
   alone_runs =
       let all : 0 + 0 + n * k ≤ n * k = omega arith in
@@ -200,7 +208,7 @@ module _ (inward : Bool) (z : Setting) (array : CopiedArray) (can : CanCopyArray
       let read = chosen_start inward array.pointer array.place in
       let put = chosen_start inward array.place array.pointer in
       weaken_runs z {P' = BeginsArray inward array} {R' = HasArrayCopied inward array}
-      (copy_runs inward z alone (can_part kind k 0 0 all (omega arith) pointer_even place_even) refl)
+      (copy_runs inward z alone (can_part kind k 0 0 all (omega arith) pointer_even place_even) pace refl)
       (λ s begins. begins_part kind k 0 0 all s begins.places)
       (λ s t begins copies. record {
         bytes = copies.bytes
@@ -218,7 +226,7 @@ module _ (inward : Bool) (z : Setting) (array : CopiedArray) (can : CanCopyArray
     left = k % per_word kind
 
     abbrev passed : ℕ
-    passed = passed_count Uint32 word_count
+    passed = passed_count pace Uint32 word_count
 
     -- how far x5 and x6 go
     abbrev gone : ℕ
@@ -236,7 +244,7 @@ module _ (inward : Bool) (z : Setting) (array : CopiedArray) (can : CanCopyArray
     rest_inside : gone + 4 * passed + n * left ≤ n * k
     rest_inside =
         let all = bytes_are kind k in
-        let few = passed_few word_count in
+        let few = passed_few pace word_count in
         omega (arith, few.1)
 
     can_words : CanCopy inward z words
@@ -246,7 +254,7 @@ module _ (inward : Bool) (z : Setting) (array : CopiedArray) (can : CanCopyArray
 
     can_rest : CanCopy inward z rest
     can_rest =
-        let few = passed_few word_count in
+        let few = passed_few pace word_count in
         can_part kind left gone (4 * passed) rest_inside (omega (arith, few.0))
         (words_even kind array.pointer (word_count - passed) passed can.pointer_even)
         (words_even kind array.place (word_count - passed) passed (word_even kind array.place can.place_even))
@@ -299,7 +307,7 @@ module _ (inward : Bool) (z : Setting) (array : CopiedArray) (can : CanCopyArray
         → copied inward rest left (worded bytes)
         ≡ with_numbers bytes n to (map (copied_value inward kind) (numbers_at bytes n from k))
     all_is bytes are there =
-        let few = passed_few word_count in
+        let few = passed_few pace word_count in
         let inside = rest_inside in
         let gone_by : gone + 4 * passed ≡ 4 * word_count = omega (arith, few.1) in
         let read = chosen_part inward array.pointer array.place gone (4 * passed) ∙ ap (λ m. from + m) gone_by in
@@ -314,15 +322,15 @@ module _ (inward : Bool) (z : Setting) (array : CopiedArray) (can : CanCopyArray
         ∙ words_then bytes n from to word_count left k are (bytes_are kind k) there
         ∙ sym (values_same inward kind bytes to (numbers_at bytes n from k) goes)
 
-    words_run : Runs z (by_words_steps code kind k) (by_words_code code kind k) (BeginsArray inward array)
+    words_run : Runs z (by_words_steps pace code kind k) (by_words_code pace code kind k) (BeginsArray inward array)
         (HasArrayCopied inward array)
     words_run =
         then_runs z {P = BeginsArray inward array} {P' = BeginsCopy inward rest} {R = HasCopied inward words passed}
         {R' = HasCopied inward rest left} {S = HasArrayCopied inward array}
         (weaken_runs z {P' = BeginsArray inward array} {R' = HasCopied inward words passed}
-        (copy_runs inward z words can_words refl)
+        (copy_runs inward z words can_words pace refl)
         (λ s begins. begins_part Uint32 word_count 0 0 words_inside s begins.places) (λ s t begins copies. copies))
-        (straight_runs_on inward z rest can_rest (4 * passed) refl (left_few kind k))
+        (straight_runs_on inward z rest can_rest (4 * passed) refl (rest_few kind k))
         (λ s t begins copies. begins_part kind left gone (4 * passed) rest_inside t (rest_places s t begins copies))
         (λ s t u begins copies more. record {
           bytes = more.bytes ∙ ap (copied inward rest left) (copies.bytes ∙ worded_is s.bytes)
@@ -355,24 +363,24 @@ module _ (inward : Bool) (z : Setting) (array : CopiedArray) (can : CanCopyArray
   }
 
   abbrev one_by_one : List Instr
-  one_by_one = copied_code (code kind) kind k
+  one_by_one = copied_code pace (code kind) kind k
 
   abbrev by_words : List Instr
-  by_words = by_words_code code kind k
+  by_words = by_words_code pace code kind k
 
   alignment_runs : goes_by_words inward kind ≡ true
-      → Runs z (by_alignment_steps code kind k array.pointer) (by_alignment_code one_by_one by_words)
+      → Runs z (by_alignment_steps pace code kind k array.pointer) (by_alignment_code one_by_one by_words)
       (BeginsArray inward array) (HasArrayCopied inward array)
   alignment_runs goes = by (array.pointer % 4 == 0) refl
     where
       short : length one_by_one < 512
-      short = let few = copied_short inward kind k in omega arith
+      short = let few = copied_short pace inward kind k in omega arith
 
       near : length by_words < 512
-      near = let few = by_words_short inward kind k in omega arith
+      near = let few = by_words_short pace inward kind k in omega arith
 
       by : (b : Bool) → array.pointer % 4 == 0 ≡ b
-          → Runs z (2 + (if b then by_words_steps code kind k else copied_steps (code kind) kind k + 1))
+          → Runs z (2 + (if b then by_words_steps pace code kind k else copied_steps pace (code kind) kind k + 1))
           (by_alignment_code one_by_one by_words) (BeginsArray inward array) (HasArrayCopied inward array)
       by true is =
           let even = eqb-true (array.pointer % 4) 0 is in
@@ -381,14 +389,14 @@ module _ (inward : Bool) (z : Setting) (array : CopiedArray) (can : CanCopyArray
           unaligned_runs z one_by_one by_words short near array.pointer tests hides
           (eqb-false (array.pointer % 4) 0 is) alone_runs
 
-  pub whole_runs : Runs z (array_steps code (goes_by_words inward kind) kind k array.pointer)
-      (array_code code (goes_by_words inward kind) kind k) (BeginsArray inward array) (HasArrayCopied inward array)
-  whole_runs = by (goes_by_words inward kind && nat_le 4 k) refl
+  pub whole_runs : Runs z (array_steps pace code (goes_by_words inward kind) kind k array.pointer)
+      (array_code pace code (goes_by_words inward kind) kind k) (BeginsArray inward array) (HasArrayCopied inward array)
+  whole_runs = by (goes_by_words inward kind && may_go_by_words pace k) refl
     where
-      by : (b : Bool) → goes_by_words inward kind && nat_le 4 k ≡ b
+      by : (b : Bool) → goes_by_words inward kind && may_go_by_words pace k ≡ b
           → Runs z
-          (if b then by_alignment_steps code kind k array.pointer else copied_steps (code kind) kind k)
+          (if b then by_alignment_steps pace code kind k array.pointer else copied_steps pace (code kind) kind k)
           (if b then by_alignment_code one_by_one by_words else one_by_one)
           (BeginsArray inward array) (HasArrayCopied inward array)
-      by true both = alignment_runs (both_left (goes_by_words inward kind) (nat_le 4 k) both)
+      by true both = alignment_runs (both_left (goes_by_words inward kind) (may_go_by_words pace k) both)
       by false neither = alone_runs

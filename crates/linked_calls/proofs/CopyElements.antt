@@ -4,7 +4,9 @@ use Rattle.std.specs.Prelude.{is_some}
 use Rattle.std.proofs.Common.{◌≡◌, ℕ, ◌+◌, ◌*◌, ◌/◌, ◌%◌, ◌<◌, ◌≤◌, ◌==◌, Bool, true, false, List, [], ◌∷◌, ◌++◌}
 use Rattle.std.proofs.Common.{length, Option, refl, sym, ap, arith}
 use Rattle.std.proofs.lemmas.Bool.{lt-ltb}
-use Rattle.linked_calls.specs.FunctionCode.{per_round}
+use Rattle.linked_calls.specs.Paces.{few_elements, per_round}
+use Rattle.linked_calls.specs.declared.pace.Pace.{Pace}
+use Rattle.linked_calls.specs.declared.pace.Pace.TheVariants.{Fast, Small}
 use Rattle.linked_calls.proofs.Below.{after_all, are_straight, AreFit, AreMet, Boolean, copied_in_code}
 use Rattle.linked_calls.proofs.Below.{copied_out_code, Data, element_bytes, elements_code, Event, Instr, IsFit, Kind}
 use Rattle.linked_calls.proofs.Below.{LiesIn, meant, next_code, number_at, number_or_zero, sign_extended, Size, sum_of}
@@ -60,38 +62,59 @@ elements_fit Boolean i k few = omega arith
 elements_fit kind i k few = omega arith
 
 -- so many rounds, and once more
-pub rounds_fit : (kind : Kind) (i k : ℕ) → i < k
-    → element_bytes kind * (per_round kind * i) + per_round kind * element_bytes kind
-    ≤ element_bytes kind * (per_round kind * k)
-rounds_fit Boolean i k few = omega arith
-rounds_fit kind i k few = omega arith
+pub rounds_fit : (pace : Pace) (kind : Kind) (i k : ℕ) → i < k
+    → element_bytes kind * (per_round pace kind * i) + per_round pace kind * element_bytes kind
+    ≤ element_bytes kind * (per_round pace kind * k)
+rounds_fit Fast Boolean i k few = omega arith
+rounds_fit Fast kind i k few = omega arith
+rounds_fit Small Boolean i k few = omega arith
+rounds_fit Small kind i k few = omega arith
 
 -- a round copies some, and few
-pub round_some : (kind : Kind) → 0 < per_round kind * element_bytes kind
-round_some Boolean = omega arith
-round_some kind = omega arith
+pub round_some : (pace : Pace) (kind : Kind) → 0 < per_round pace kind * element_bytes kind
+round_some Fast Boolean = omega arith
+round_some Fast kind = omega arith
+round_some Small Boolean = omega arith
+round_some Small kind = omega arith
 
-pub round_few : (kind : Kind) → per_round kind ≤ 8
-round_few Boolean = omega arith
-round_few kind = omega arith
+pub round_few : (pace : Pace) (kind : Kind) → per_round pace kind ≤ 8
+round_few Fast Boolean = omega arith
+round_few Fast kind = omega arith
+round_few Small Boolean = omega arith
+round_few Small kind = omega arith
 
 -- rounds and what is left are all
-pub rounds_split : (kind : Kind) (k : ℕ) → per_round kind * (k / per_round kind) + k % per_round kind ≡ k
-rounds_split Boolean k = omega arith
-rounds_split kind k = omega arith
+pub rounds_split : (pace : Pace) (kind : Kind) (k : ℕ)
+    → per_round pace kind * (k / per_round pace kind) + k % per_round pace kind ≡ k
+rounds_split Fast Boolean k = omega arith
+rounds_split Fast kind k = omega arith
+rounds_split Small Boolean k = omega arith
+rounds_split Small kind k = omega arith
 
 -- and few are left
-pub left_few : (kind : Kind) (k : ℕ) → k % per_round kind < 8
-left_few Boolean k = omega arith
-left_few kind k = omega arith
+pub left_few : (pace : Pace) (kind : Kind) (k : ℕ) → k % per_round pace kind < 8
+left_few Fast Boolean k = omega arith
+left_few Fast kind k = omega arith
+left_few Small Boolean k = omega arith
+left_few Small kind k = omega arith
 
-pub round_inside : (kind : Kind) (i k : ℕ) → i < k / per_round kind → per_round kind * i + per_round kind ≤ k
-round_inside Boolean i k few = omega arith
-round_inside kind i k few = omega arith
+pub round_inside : (pace : Pace) (kind : Kind) (i k : ℕ) → i < k / per_round pace kind
+    → per_round pace kind * i + per_round pace kind ≤ k
+round_inside Fast Boolean i k few = omega arith
+round_inside Fast kind i k few = omega arith
+round_inside Small Boolean i k few = omega arith
+round_inside Small kind i k few = omega arith
 
-pub rounds_some : (kind : Kind) (k : ℕ) → 16 ≤ k → 0 < k / per_round kind
-rounds_some Boolean k many = omega arith
-rounds_some kind k many = omega arith
+-- where there are not few elements, some go by rounds
+pub rounds_some : (pace : Pace) (kind : Kind) (k : ℕ) → few_elements pace ≤ k → 0 < k / per_round pace kind
+rounds_some Fast Boolean k many = omega arith
+rounds_some Fast kind k many = omega arith
+rounds_some Small Boolean k many = omega arith
+rounds_some Small kind k many = omega arith
+
+pub few_enough : (pace : Pace) → few_elements pace ≤ 16
+few_enough Fast = omega arith
+few_enough Small = omega arith
 
 pub fewer_fit : (kind : Kind) (i k : ℕ) → i ≤ k → element_bytes kind * i ≤ element_bytes kind * k
 fewer_fit Boolean i k few = omega arith
@@ -120,16 +143,20 @@ element_plain true kind offset near = simp (lt-ltb offset 4096 near)
 element_plain false kind offset near = simp (lt-ltb offset 4096 near)
 
 -- those of a round, and x5 and x6 moved
-abbrev pub round_code : Bool → Kind → List Instr
-round_code inward kind =
-    elements_code (element_code inward kind) (element_bytes kind) 0 (per_round kind) ++ next_code kind
+abbrev pub round_code : Pace → Bool → Kind → List Instr
+round_code pace inward kind =
+    elements_code (element_code inward kind) (element_bytes kind) 0 (per_round pace kind) ++ next_code pace kind
 
-pub round_length : (inward : Bool) (kind : Kind)
-    → (0 < length (round_code inward kind)) × (length (round_code inward kind) < 1024)
-round_length true Boolean = (omega arith, omega arith)
-round_length false Boolean = (omega arith, omega arith)
-round_length true kind = (omega arith, omega arith)
-round_length false kind = (omega arith, omega arith)
+pub round_length : (pace : Pace) (inward : Bool) (kind : Kind)
+    → (0 < length (round_code pace inward kind)) × (length (round_code pace inward kind) < 1024)
+round_length Fast true Boolean = (omega arith, omega arith)
+round_length Fast false Boolean = (omega arith, omega arith)
+round_length Fast true kind = (omega arith, omega arith)
+round_length Fast false kind = (omega arith, omega arith)
+round_length Small true Boolean = (omega arith, omega arith)
+round_length Small false Boolean = (omega arith, omega arith)
+round_length Small true kind = (omega arith, omega arith)
+round_length Small false kind = (omega arith, omega arith)
 
 pub element_fit : (Allows : Option Event → Type 0) (inward : Bool) (kind : Kind) (offset a b : ℕ)
     → IsFit Allows (element_bytes kind) (event.Load a (element_size kind)) a

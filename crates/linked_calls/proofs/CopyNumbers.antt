@@ -17,13 +17,15 @@ use Rattle.linked_calls.proofs.Below.{with_number, with_numbers, with_register, 
 use Rattle.linked_calls.proofs.Bytes.{number_beside, number_there, numbers_count, is_some-with_numbers, numbers_more}
 use Rattle.linked_calls.proofs.Bytes.{numbers_then}
 use Rattle.linked_calls.proofs.CopyElements.{chosen, copied_value, round_code, round_length, element_code, element_even}
-use Rattle.linked_calls.proofs.CopyElements.{element_fit, element_lies, element_made, element_met, element_plain}
+use Rattle.linked_calls.proofs.CopyElements.{element_fit, element_lies, element_made, element_met, element_plain, few_enough}
 use Rattle.linked_calls.proofs.CopyElements.{element_size, element_works, elements_fit, fewer_fit, near_elements}
 use Rattle.linked_calls.proofs.CopyElements.{left_few, round_few, round_inside, round_some, rounds_fit, rounds_some}
 use Rattle.linked_calls.proofs.CopyElements.{rounds_split, some_bytes, source, target}
-use Rattle.linked_calls.specs.FunctionCode.{per_round}
-use Rattle.linked_calls.proofs.Parts.{number_then, same_number}
+use Rattle.linked_calls.proofs.Parts.{bound_runs, same_number}
 use Rattle.linked_calls.proofs.Pieces.{MayAt}
+use Rattle.linked_calls.specs.FunctionCode.{bound_code}
+use Rattle.linked_calls.specs.Paces.{few_elements, per_round}
+use Rattle.linked_calls.specs.declared.pace.Pace.{Pace}
 use Rattle.rv_machine.specs.declared.observation.Event.TheVariants as event
 
 -- What holds of both of two, or of the two in both orders, holds of those that are chosen.
@@ -378,173 +380,170 @@ module _ (inward : Bool) (z : Setting) (numbers : Numbers) (can : CanCopy inward
       let held = subst (λ m. Copying 0 m s t) none (more s (begins_copying s begins)) in
       all_copied 0 k none s s t held refl (λ q g h l m. held.others q g h m))
 
-  -- The loop.
+  -- The loop, at a pace.
 
-  -- how many elements a round copies
-  abbrev r : ℕ
-  r = per_round kind
+  module _ (pace : Pace) where
+    -- how many elements a round copies
+    abbrev r : ℕ
+    r = per_round pace kind
 
-  -- x5 and x6 go on by as many
-  next_runs : (base : ℕ) → base + r ≤ k
-      → Runs z 2 (next_code kind) (FromCopying base r) (ToCopying base r (base + r) 0)
-  next_runs base all =
-      let by = r * n in
-      let few = near_elements kind r (omega (arith, round_few kind)) in
-      let small : by < 4096 = omega arith in
-      let same : base + r ≡ base + r + 0 = omega arith in
-      let moved = λ (x at : ℕ) (is : x ≡ (at + n * base) % 2 ^ 32).
-      ap (λ y. sum_of y (sign_extended 12 by)) is ∙ on_by at base in
-      weaken_runs z
-      (computes_runs z (λ q. (q == 5) || (q == 6)) (next_code kind)
-      (λ regs. with_register (with_register regs 5 (sum_of (regs 5) (sign_extended 12 by))) 6
-      (sum_of (regs 6) (sign_extended 12 by)))
-      (simp (lt-ltb by 4096 small)) (λ regs. refl))
-      (λ d given. given)
-      (λ d t given made s held.
-      subst (Copying (base + r) 0 s) (sym made)
-      (record {
-        begins = held.begins;
-        source_is = both_on inward (d.regs 5) (d.regs 6) by ∙ moved (source inward d.regs) source_at held.source_is;
-        target_is = both_back inward (d.regs 5) (d.regs 6) by ∙ moved (target inward d.regs) target_at held.target_is;
-        others = λ q g h l.
-            unwritten (with_register d.regs 5 (sum_of (d.regs 5) (sign_extended 12 by))) 6
-            (sum_of (d.regs 6) (sign_extended 12 by)) q h
-            ∙ unwritten d.regs 5 (sum_of (d.regs 5) (sign_extended 12 by)) q g
-            ∙ held.others q g h l;
-        bytes = held.bytes ∙ ap (λ j. done j s.bytes) same;
-      }))
-    where
-      on_by : (at base : ℕ) → sum_of ((at + n * base) % 2 ^ 32) (sign_extended 12 (r * n))
-          ≡ (at + n * (base + r)) % 2 ^ 32
-      on_by at base =
-          let few = near_elements kind r (omega (arith, round_few kind)) in
-          near_sum ((at + n * base) % 2 ^ 32) (r * n) (omega arith) ∙ omega arith
-
-  -- Many, which begin where x5 and x6 point.
-
-  module _ (at_first : numbers.distance ≡ 0) where
-    abbrev rounds : ℕ
-    rounds = k / r
-
-    abbrev left : ℕ
-    left = k % r
-
-    all_rounds : r * rounds + left ≡ k
-    all_rounds = rounds_split kind k
-
-    -- x7 is where the rounds end
-    record BeginsRounds (s : Data) : Type 0 where
-      begins : BeginsCopy inward numbers s
-      stop : s.regs 7 ≡ (numbers.pointer + n * (r * rounds)) % 2 ^ 32
-
-    record Round (i : ℕ) (s d : Data) : Type 0 where
-      begins : BeginsRounds s
-      held : Copying (r * i) 0 s d
-
-    round_runs : (i : ℕ) → i < rounds
-        → Runs z (length (elements_code element n 0 r) + 2) (round_code inward kind)
-        (λ d. (s : Data) × Round i s d) (λ d t. (s : Data) → Round i s d → Round (suc i) s t)
-    round_runs i few =
-        let inside = round_inside kind i k few in
-        let e : r * i + r ≡ r * suc i = omega arith in
-        let first : 0 + r ≡ r = omega arith in
-        then_runs z {P = λ d. (s : Data) × Round i s d} {R = ToCopying (r * i) 0 (r * i) r}
-        {S = λ d t. (s : Data) → Round i s d → Round (suc i) s t}
-        (weaken_runs z (elements_run r (r * i) 0 0 (omega arith) (omega (arith, round_few kind)) (omega (arith, inside)))
-        (λ d given. (given.0, given.1.held))
-        (λ d t given done s held. subst (λ m. Copying (r * i) m s t) first (done s held)))
-        (next_runs (r * i) inside)
-        (λ d t given done. (given.0, done given.0 given.1.held))
-        (λ d t u given done more s round. record {
-          begins = round.begins;
-          held = subst (λ b. Copying b 0 s u) e (more s (done s round.held));
-        })
-
-    stop_is : (i : ℕ) (s d : Data) → Round i s d → d.regs 7 ≡ (numbers.pointer + n * (r * rounds)) % 2 ^ 32
-    stop_is i s d round =
-        round.held.others 7 (λ e. omega arith) (λ e. omega arith) (λ e. omega arith) ∙ round.begins.stop
-
-    goes_further : (i : ℕ) (s d : Data) → i < rounds → Round i s d → d.regs 5 ≢ d.regs 7
-    goes_further i s d few round same =
-        omega (
-          arith,
-          pointer_is (r * i) 0 s d round.held,
-          stop_is i s d round,
-          rounds_fit kind i rounds few,
-          fewer_fit kind (r * rounds) k (omega (arith, all_rounds)),
-          round_some kind,
-          can.pointer_ends,
-        )
-
-    loop_runs : 0 < rounds
-        → Runs z (rounds * suc (length (elements_code element n 0 r) + 2))
-        (until_equal 5 7 (round_code inward kind)) BeginsRounds (λ s t. Copying (r * rounds) 0 s t)
-    loop_runs some =
-        let size = round_length inward kind in
-        let none : 0 ≡ r * 0 = omega arith in
-        loop z 5 7 (omega arith, omega arith) (round_code inward kind) size.0 size.1 rounds Round round_runs goes_further
-        (λ s d round. pointer_is (r * rounds) 0 s d round.held ∙ sym (stop_is rounds s d round)) some
-        (λ s begins. record {
-          begins = begins;
-          held = subst (λ b. Copying b 0 s s) none (begins_copying s begins.begins);
-        })
-        (λ s t begins round. round.held)
-
-    -- with x7 at the end of the rounds
-    abbrev bounded : Data → Data
-    bounded s = with_result 7 (sum_of (n * (r * rounds)) (s.regs 5)) s
-
-    rounds_begin : (s : Data) → BeginsCopy inward numbers s → BeginsRounds (bounded s)
-    rounds_begin s begins = record {
-      begins = record {
-        stack = begins.stack;
-        pointer = begins.pointer;
-        place = begins.place;
-        from_there = begins.from_there;
-        to_there = begins.to_there;
-      };
-      stop = ap (λ x. sum_of (n * (r * rounds)) x) begins.pointer ∙ omega arith;
-    }
-
-    rounds_run : 16 ≤ k
-        → Runs z (rounds_steps element kind k) (rounds_code element kind k) (BeginsCopy inward numbers)
-        (HasCopied inward numbers left)
-    rounds_run many =
-        let number = constant_code 7 (n * (r * rounds)) in
-        let stop = Register Add 7 7 5 in
-        let loop_code = until_equal 5 7 (round_code inward kind) in
-        let rest = elements_code element n 0 left in
-        let all = all_rounds in
-        let none : 0 + left ≡ left = omega arith in
-        let fits = fewer_fit kind (r * rounds) k (omega (arith, all_rounds)) in
-        let ends = can.place_ends in
-        as_code z (grouped number stop loop_code rest)
-        (in_steps z (counted (length number) _ _ _ (length-append number (stop ∷ [])))
-        (makes_then z {P = BeginsCopy inward numbers} {f = bounded} {S = HasCopied inward numbers left}
-        (number_then z 7 (n * (r * rounds)) (omega arith) (λ e. omega arith) (omega arith) Add 7 5 (omega arith)
-        (omega arith))
-        (then_runs z {S = λ s t. Copying (r * rounds) left s t} (loop_runs (rounds_some kind k many))
-        (elements_run left (r * rounds) 0 0 (omega arith) (omega (arith, left_few kind k)) (omega (arith, all)))
-        (λ s t begins held. (s, held))
-        (λ s t u begins held more. subst (λ m. Copying (r * rounds) m s u) none (more s held)))
-        rounds_begin
-        (λ s u begins held.
-        all_copied (r * rounds) left all s (bounded s) u held refl
-        (λ q g h l m. held.others q g h m ∙ unwritten s.regs 7 (sum_of (n * (r * rounds)) (s.regs 5)) q l))))
+    -- x5 and x6 go on by as many
+    next_runs : (base : ℕ) → base + r ≤ k
+        → Runs z 2 (next_code pace kind) (FromCopying base r) (ToCopying base r (base + r) 0)
+    next_runs base all =
+        let by = r * n in
+        let few = near_elements kind r (omega (arith, round_few pace kind)) in
+        let small : by < 4096 = omega arith in
+        let same : base + r ≡ base + r + 0 = omega arith in
+        let moved = λ (x at : ℕ) (is : x ≡ (at + n * base) % 2 ^ 32).
+        ap (λ y. sum_of y (sign_extended 12 by)) is ∙ on_by at base in
+        weaken_runs z
+        (computes_runs z (λ q. (q == 5) || (q == 6)) (next_code pace kind)
+        (λ regs. with_register (with_register regs 5 (sum_of (regs 5) (sign_extended 12 by))) 6
+        (sum_of (regs 6) (sign_extended 12 by)))
+        (simp (lt-ltb by 4096 small)) (λ regs. refl))
+        (λ d given. given)
+        (λ d t given made s held.
+        subst (Copying (base + r) 0 s) (sym made)
+        (record {
+          begins = held.begins;
+          source_is = both_on inward (d.regs 5) (d.regs 6) by ∙ moved (source inward d.regs) source_at held.source_is;
+          target_is = both_back inward (d.regs 5) (d.regs 6) by ∙ moved (target inward d.regs) target_at held.target_is;
+          others = λ q g h l.
+              unwritten (with_register d.regs 5 (sum_of (d.regs 5) (sign_extended 12 by))) 6
+              (sum_of (d.regs 6) (sign_extended 12 by)) q h
+              ∙ unwritten d.regs 5 (sum_of (d.regs 5) (sign_extended 12 by)) q g
+              ∙ held.others q g h l;
+          bytes = held.bytes ∙ ap (λ j. done j s.bytes) same;
+        }))
       where
-        grouped : (a : List Instr) (x : Instr) (c d : List Instr) → (a ++ x ∷ []) ++ (c ++ d) ≡ a ++ x ∷ c ++ d
-        grouped a x c d = simp append_assoc
+        on_by : (at base : ℕ) → sum_of ((at + n * base) % 2 ^ 32) (sign_extended 12 (r * n))
+            ≡ (at + n * (base + r)) % 2 ^ 32
+        on_by at base =
+            let few = near_elements kind r (omega (arith, round_few pace kind)) in
+            near_sum ((at + n * base) % 2 ^ 32) (r * n) (omega arith) ∙ omega arith
 
-        counted : (x w e r : ℕ) → w ≡ x + 1 → w + (rounds * suc (e + 2) + r) ≡ x + 1 + (e + 3) * rounds + r
-        counted x w e r more = omega arith
+    -- Many, which begin where x5 and x6 point.
 
-    pub copy_runs : Runs z (copied_steps element kind k) (copied_code element kind k) (BeginsCopy inward numbers)
-        (HasCopied inward numbers (passed_count kind k))
-    copy_runs = by (nat_lt k 16) refl
-      where
-        by : (b : Bool) → nat_lt k 16 ≡ b
-            → Runs z (if b then length (elements_code element n 0 k) else rounds_steps element kind k)
-            (if b then elements_code element n 0 k else rounds_code element kind k) (BeginsCopy inward numbers)
-            (HasCopied inward numbers (if b then k else k % r))
-        by true few = straight_runs_on 0 (sym at_first) (ltb-true k 16 few)
-        by false many = rounds_run (ltb-false k 16 many)
+    module _ (at_first : numbers.distance ≡ 0) where
+      abbrev rounds : ℕ
+      rounds = k / r
+
+      abbrev left : ℕ
+      left = k % r
+
+      all_rounds : r * rounds + left ≡ k
+      all_rounds = rounds_split pace kind k
+
+      -- x7 is where the rounds end
+      record BeginsRounds (s : Data) : Type 0 where
+        begins : BeginsCopy inward numbers s
+        stop : s.regs 7 ≡ (numbers.pointer + n * (r * rounds)) % 2 ^ 32
+
+      record Round (i : ℕ) (s d : Data) : Type 0 where
+        begins : BeginsRounds s
+        held : Copying (r * i) 0 s d
+
+      round_runs : (i : ℕ) → i < rounds
+          → Runs z (length (elements_code element n 0 r) + 2) (round_code pace inward kind)
+          (λ d. (s : Data) × Round i s d) (λ d t. (s : Data) → Round i s d → Round (suc i) s t)
+      round_runs i few =
+          let inside = round_inside pace kind i k few in
+          let e : r * i + r ≡ r * suc i = omega arith in
+          let first : 0 + r ≡ r = omega arith in
+          then_runs z {P = λ d. (s : Data) × Round i s d} {R = ToCopying (r * i) 0 (r * i) r}
+          {S = λ d t. (s : Data) → Round i s d → Round (suc i) s t}
+          (weaken_runs z (elements_run r (r * i) 0 0 (omega arith) (omega (arith, round_few pace kind)) (omega (arith, inside)))
+          (λ d given. (given.0, given.1.held))
+          (λ d t given done s held. subst (λ m. Copying (r * i) m s t) first (done s held)))
+          (next_runs (r * i) inside)
+          (λ d t given done. (given.0, done given.0 given.1.held))
+          (λ d t u given done more s round. record {
+            begins = round.begins;
+            held = subst (λ b. Copying b 0 s u) e (more s (done s round.held));
+          })
+
+      stop_is : (i : ℕ) (s d : Data) → Round i s d → d.regs 7 ≡ (numbers.pointer + n * (r * rounds)) % 2 ^ 32
+      stop_is i s d round =
+          round.held.others 7 (λ e. omega arith) (λ e. omega arith) (λ e. omega arith) ∙ round.begins.stop
+
+      goes_further : (i : ℕ) (s d : Data) → i < rounds → Round i s d → d.regs 5 ≢ d.regs 7
+      goes_further i s d few round same =
+          omega (
+            arith,
+            pointer_is (r * i) 0 s d round.held,
+            stop_is i s d round,
+            rounds_fit pace kind i rounds few,
+            fewer_fit kind (r * rounds) k (omega (arith, all_rounds)),
+            round_some pace kind,
+            can.pointer_ends,
+          )
+
+      loop_runs : 0 < rounds
+          → Runs z (rounds * suc (length (elements_code element n 0 r) + 2))
+          (until_equal 5 7 (round_code pace inward kind)) BeginsRounds (λ s t. Copying (r * rounds) 0 s t)
+      loop_runs some =
+          let size = round_length pace inward kind in
+          let none : 0 ≡ r * 0 = omega arith in
+          loop z 5 7 (omega arith, omega arith) (round_code pace inward kind) size.0 size.1 rounds Round round_runs goes_further
+          (λ s d round. pointer_is (r * rounds) 0 s d round.held ∙ sym (stop_is rounds s d round)) some
+          (λ s begins. record {
+            begins = begins;
+            held = subst (λ b. Copying b 0 s s) none (begins_copying s begins.begins);
+          })
+          (λ s t begins round. round.held)
+
+      -- with x7 at the end of the rounds
+      abbrev bounded : Data → Data
+      bounded s = with_result 7 (sum_of (n * (r * rounds)) (s.regs 5)) s
+
+      rounds_begin : (s : Data) → BeginsCopy inward numbers s → BeginsRounds (bounded s)
+      rounds_begin s begins = record {
+        begins = record {
+          stack = begins.stack;
+          pointer = begins.pointer;
+          place = begins.place;
+          from_there = begins.from_there;
+          to_there = begins.to_there;
+        };
+        stop = ap (λ x. sum_of (n * (r * rounds)) x) begins.pointer ∙ omega arith;
+      }
+
+      rounds_run : few_elements pace ≤ k
+          → Runs z (rounds_steps pace element kind k) (rounds_code pace element kind k) (BeginsCopy inward numbers)
+          (HasCopied inward numbers left)
+      rounds_run many =
+          let bytes = n * (r * rounds) in
+          let rest = elements_code element n 0 left in
+          let all = all_rounds in
+          let none : 0 + left ≡ left = omega arith in
+          let fits = fewer_fit kind (r * rounds) k (omega (arith, all_rounds)) in
+          let ends = can.place_ends in
+          as_code z (sym (append_assoc (bound_code pace bytes) (until_equal 5 7 (round_code pace inward kind)) rest))
+          (in_steps z (counted (length (bound_code pace bytes)) (length (elements_code element n 0 r)) (length rest))
+          (makes_then z {P = BeginsCopy inward numbers} {f = bounded} {S = HasCopied inward numbers left}
+          (bound_runs z pace bytes (omega arith))
+          (then_runs z {S = λ s t. Copying (r * rounds) left s t} (loop_runs (rounds_some pace kind k many))
+          (elements_run left (r * rounds) 0 0 (omega arith) (omega (arith, left_few pace kind k)) (omega (arith, all)))
+          (λ s t begins held. (s, held))
+          (λ s t u begins held more. subst (λ m. Copying (r * rounds) m s u) none (more s held)))
+          rounds_begin
+          (λ s u begins held.
+          all_copied (r * rounds) left all s (bounded s) u held refl
+          (λ q g h l m. held.others q g h m ∙ unwritten s.regs 7 (sum_of bytes (s.regs 5)) q l))))
+        where
+          counted : (bound e rest : ℕ) → bound + (rounds * suc (e + 2) + rest) ≡ bound + (e + 3) * rounds + rest
+          counted bound e rest = omega arith
+
+      pub copy_runs : Runs z (copied_steps pace element kind k) (copied_code pace element kind k)
+          (BeginsCopy inward numbers) (HasCopied inward numbers (passed_count pace kind k))
+      copy_runs = by (nat_lt k (few_elements pace)) refl
+        where
+          by : (b : Bool) → nat_lt k (few_elements pace) ≡ b
+              → Runs z (if b then length (elements_code element n 0 k) else rounds_steps pace element kind k)
+              (if b then elements_code element n 0 k else rounds_code pace element kind k) (BeginsCopy inward numbers)
+              (HasCopied inward numbers (if b then k else k % r))
+          by true few =
+              let below = ltb-true k (few_elements pace) few in
+              straight_runs_on 0 (sym at_first) (omega (arith, few_enough pace))
+          by false many = rounds_run (ltb-false k (few_elements pace) many)

@@ -38,13 +38,14 @@ use Rattle.linked_calls.specs.FunctionCode.{frame_code}
 use Rattle.hepurita.specs.Begun.{IsBegun}
 use Rattle.hepurita.specs.Blank.{IsBlank}
 use Rattle.hepurita.specs.Needs.{Needs}
+use Rattle.linked_calls.specs.declared.pace.Pace.{Pace}
 
 some_byte : (o : Option ℕ) → is_some o ≡ true → (byte : ℕ) × (o ≡ Some byte)
 some_byte (Some byte) there = (byte, refl)
 some_byte None there = cc
 
-module _ (image : Fields) (needs : Needs) (code : MachineCode) (site : CallSite) (is : IsImage image)
-    (is_site : IsSite image needs code site)
+module _ (image : Fields) (needs : Needs) (pace : Pace) (code : MachineCode) (site : CallSite) (is : IsImage image)
+    (is_site : IsSite image needs pace code site)
     (numbers : RoomNumbers image site) where
   abbrev z : Setting
   z = call_setting image code site
@@ -180,18 +181,18 @@ module _ (image : Fields) (needs : Needs) (code : MachineCode) (site : CallSite)
   abbrev entering : Data → Data
   entering d = entered kept (needed_from 0 image.slots) above high d
 
-  entry_part : Runs z (entry_steps image site.pointers) (entry_code image) Called (λ d t. t ≡ entering d)
+  entry_part : Runs z (entry_steps image pace site.pointers) (entry_code image) Called (λ d t. t ≡ entering d)
   entry_part =
       entry_runs kept (needed_from 0 image.slots) z above beyond (omega arith) numbers.above_whole numbers.above_least
       numbers.above_most (kept_fitting (body_words image.words)) (omega arith)
       (λ x low high. inl ((omega arith, omega arith), low))
       (λ d called. (omega (arith, called.stack), above_there d called))
 
-  frame_part : Runs z (steps_for room needs.blank) (frame_code room needs.blank) (HasFrame frame room)
+  frame_part : Runs z (steps_for pace room needs.blank) (frame_code pace room needs.blank) (HasFrame frame room)
       (IsReadied needs.blank image.frame_bytes frame room)
   frame_part =
       frame_readied z image.frame_bytes frame room numbers.even numbers.whole (omega arith)
-      (λ sp x low high above. inl ((omega arith, omega arith), above)) needs.blank numbers.holds
+      (λ sp x low high above. inl ((omega arith, omega arith), above)) pace needs.blank numbers.holds
 
   -- x2 is the frame's base, its words that have to be are zeros, and the room above it holds what the entry has stored
   record IsFramed (d t : Data) : Type 0 where
@@ -216,7 +217,7 @@ module _ (image : Fields) (needs : Needs) (code : MachineCode) (site : CallSite)
     outside = readied.outside;
   }
 
-  framed_part : Runs z (entry_steps image site.pointers + steps_for room needs.blank) (entry_code image ++ frame_code room needs.blank)
+  framed_part : Runs z (entry_steps image pace site.pointers + steps_for pace room needs.blank) (entry_code image ++ frame_code pace room needs.blank)
       Called IsFramed
   framed_part = makes_then z {f = entering} entry_part frame_part frame_begins framed
 
@@ -277,7 +278,7 @@ module _ (image : Fields) (needs : Needs) (code : MachineCode) (site : CallSite)
         same_beside (2 ∷ taking_registers) u.regs d.regs
         (λ q none. takes.others q none.1 ∙ frames.others q none.0 none.1.0) rs ok
 
-    taken_begun : IsBegun image needs frame (arguments_of image site (at_call d)) (at (body_at image needs site) u)
+    taken_begun : IsBegun image needs frame (arguments_of image site (at_call d)) (at (body_at image needs pace site) u)
     taken_begun = record {
       base = (same_beside taking_registers u.regs t.regs takes.others (2 ∷ []) refl).0 ∙ frames.stack;
       before = t.bytes;
@@ -297,7 +298,7 @@ module _ (image : Fields) (needs : Needs) (code : MachineCode) (site : CallSite)
         ∙ all_taken_data image site (at_call d) needs.spared t.bytes 0 image.slots known (λ y from to. frames.there y from to) x
         ∙ framed_there d t called frames x low (omega arith)
 
-    is_entered : IsEntered image needs site (at_call d) (at (body_at image needs site) u)
+    is_entered : IsEntered image needs pace site (at_call d) (at (body_at image needs pace site) u)
     is_entered = record {
       at_body = refl;
       begun = taken_begun;
@@ -311,12 +312,12 @@ module _ (image : Fields) (needs : Needs) (code : MachineCode) (site : CallSite)
       there = room_there;
     }
 
-  enter_part : Runs z (entry_steps image site.pointers + steps_for room needs.blank + arguments_steps image site.pointers needs.spared 0 image.slots)
-      (enter_code image needs) Called
-      (λ d t. IsEntered image needs site (at_call d) (at (body_at image needs site) t))
+  enter_part : Runs z (entry_steps image pace site.pointers + steps_for pace room needs.blank + arguments_steps image pace site.pointers needs.spared 0 image.slots)
+      (enter_code image needs pace) Called
+      (λ d t. IsEntered image needs pace site (at_call d) (at (body_at image needs pace site) t))
   enter_part =
-      then_runs z {S = λ d t. IsEntered image needs site (at_call d) (at (body_at image needs site) t)} framed_part
-      (arguments_runs image site code numbers needs.spared 0 image.slots (omega arith) known)
+      then_runs z {S = λ d t. IsEntered image needs pace site (at_call d) (at (body_at image needs pace site) t)} framed_part
+      (arguments_runs image site code numbers pace needs.spared 0 image.slots (omega arith) known)
       taking_begins is_entered
 
 -- The state at the call, as the part has it.
@@ -326,23 +327,23 @@ at_own : (site : CallSite) (image : Fields) (s : State) → IsCalled image site 
 at_own site image s called = ap (λ p. at p (record { regs = s.regs; bytes = s.bytes })) (sym called.at_entry)
 
 pub enters : EnteringLeads
-enters image needs code site is is_site =
+enters image needs pace code site is is_site =
     let z = call_setting image code site in
-    let part = does z site.entry (enter_code image needs) (enter_placed image code site is_site)
-    (in_steps z (sym (enter_steps_are image site.pointers needs))
-    (enter_part image needs code site is is_site (room_numbers image code site is_site))) in
+    let part = does z site.entry (enter_code image needs pace) (enter_placed image code site is_site)
+    (in_steps z (sym (enter_steps_are image pace site.pointers needs))
+    (enter_part image needs pace code site is is_site (room_numbers image code site is_site))) in
     record {
       shown = part.shown;
       runs = λ s called.
           let d : Data = record { regs = s.regs; bytes = s.bytes } in
           let own = at_own site image s called in
           let run = part.runs d (subst (λ (x : State). IsCalled image site x) (sym own) called) in
-          let end = at (body_at image needs site) run.end in
+          let end = at (body_at image needs pace site) run.end in
           record {
             end = end;
-            leads = subst (λ (x : State). LeadsWithin code (IsOfCall image site) (enter_steps image needs site.pointers) x
+            leads = subst (λ (x : State). LeadsWithin code (IsOfCall image site) (enter_steps image needs pace site.pointers) x
                 part.shown end)
                 own run.leads;
-            entered = subst (λ (x : State). IsEntered image needs site x end) own run.done;
+            entered = subst (λ (x : State). IsEntered image needs pace site x end) own run.done;
           };
     }

@@ -33,26 +33,27 @@ use Rattle.linked_calls.proofs.Rooms.{RoomNumbers, room_numbers}
 use Rattle.linked_calls.proofs.SameRegisters.{IsNone, all_same, same_beside, same_then, still_same}
 use Rattle.linked_calls.proofs.SavedRegisters.{saved_same}
 use Rattle.linked_calls.proofs.Standing.{function_length, leave_placed}
+use Rattle.linked_calls.specs.declared.pace.Pace.{Pace}
 
 -- Where the code stands.
 
-abbrev front : Fields → List Instr
-front image =
-    result_code image.returned ++ results_code image 0 image.slots ++ restore_code
-    image ++ wipe_code (room_of image) ++ clear_registers_code scratch_registers
+abbrev front : Fields → Pace → List Instr
+front image pace =
+    result_code image.returned ++ results_code image pace 0 image.slots ++ restore_code
+    image ++ wipe_code pace (room_of image) ++ clear_registers_code scratch_registers
 
-last_place : (image : Fields) (needs : Needs) (site : CallSite)
-    → leave_at image needs site + 4 * length (front image) ≡ site.entry + 4 * (length (function_words image needs) - 1)
-last_place image needs site =
-    let count = function_length image needs in
-    let last = length-append (front image) (JumpRegister 0 1 0 ∷ []) in
+last_place : (image : Fields) (needs : Needs) (pace : Pace) (site : CallSite)
+    → leave_at image needs pace site + 4 * length (front image pace) ≡ site.entry + 4 * (length (function_words image needs pace) - 1)
+last_place image needs pace site =
+    let count = function_length image needs pace in
+    let last = length-append (front image pace) (JumpRegister 0 1 0 ∷ []) in
     omega arith
 
 grouped : (x r w c : List Instr) → x ++ (r ++ w ++ c) ≡ x ++ r ++ w ++ c
 grouped x r w c = simp append_assoc
 
-module _ (image : Fields) {needs : Needs} (code : MachineCode) (site : CallSite) (is : IsImage image)
-    (at_site : IsSite image needs code site)
+module _ (image : Fields) {needs : Needs} {pace : Pace} (code : MachineCode) (site : CallSite) (is : IsImage image)
+    (at_site : IsSite image needs pace code site)
     (numbers : RoomNumbers image site) where
   abbrev z : Setting
   z = call_setting image code site
@@ -107,12 +108,12 @@ module _ (image : Fields) {needs : Needs} (code : MachineCode) (site : CallSite)
     bytes : t.bytes ≡ left_bytes s.bytes
     others : (q : ℕ) → IsNone (10 ∷ copying_registers) q → t.regs q ≡ s.regs q
 
-  handed_runs : Runs z (length (result_code image.returned) + outputs_steps image site.pointers 0 image.slots)
-      (result_code image.returned ++ results_code image 0 image.slots) Starts Handed
+  handed_runs : Runs z (length (result_code image.returned) + outputs_steps image pace site.pointers 0 image.slots)
+      (result_code image.returned ++ results_code image pace 0 image.slots) Starts Handed
   handed_runs =
       makes_then z {P = Starts} {f = λ s. with_result 10 (result_of s.bytes image.returned) s} {S = Handed}
       (result_runs image.returned (slots_end 0 image.slots) is.returned is.returned_inside)
-      (results_runs image code site numbers known)
+      (results_runs image code site numbers pace known)
       (λ s begins. record {
         stack = begins.stack;
         bytes = begins.bytes;
@@ -130,32 +131,32 @@ module _ (image : Fields) {needs : Needs} (code : MachineCode) (site : CallSite)
   -- All but the last instruction.
 
   abbrev last_at : ℕ
-  last_at = leave_at image needs site + 4 * length (front image)
+  last_at = leave_at image needs pace site + 4 * length (front image pace)
 
   -- for whatever the caller had in its registers
   abbrev LeavesAll : Data → Data → Type 0
   LeavesAll s t =
-      (regs : ℕ → ℕ) → CanLeave image needs site regs (at (leave_at image needs site) s)
+      (regs : ℕ → ℕ) → CanLeave image needs pace site regs (at (leave_at image needs pace site) s)
       → IsLeft image site regs s.bytes (results_in base image s.bytes) (at last_at t)
 
   abbrev front_steps : ℕ
   front_steps =
-      length (result_code image.returned) + outputs_steps image site.pointers 0 image.slots +
+      length (result_code image.returned) + outputs_steps image pace site.pointers 0 image.slots +
       (length (address_code 5 (frame_room image)) + length (kept_of image) + 1 +
-      runs_steps (frame_room image + above_frame image) + 14)
+      runs_steps pace (frame_room image + above_frame image) + 14)
 
-  front_runs : Runs z front_steps (front image) Starts LeavesAll
+  front_runs : Runs z front_steps (front image pace) Starts LeavesAll
   front_runs =
       let ends = numbers.ends in
       let room = frame_room image in
-      let first = result_code image.returned ++ results_code image 0 image.slots in
-      let rest = restore_code image ++ wipe_code (room_of image) ++ clear_registers_code scratch_registers in
-      as_code z (grouped first (restore_code image) (wipe_code (room_of image)) (clear_registers_code scratch_registers))
+      let first = result_code image.returned ++ results_code image pace 0 image.slots in
+      let rest = restore_code image ++ wipe_code pace (room_of image) ++ clear_registers_code scratch_registers in
+      as_code z (grouped first (restore_code image) (wipe_code pace (room_of image)) (clear_registers_code scratch_registers))
       (then_runs z {P = Starts} {S = LeavesAll} handed_runs
       (lasts_run z (body_words image.words) base room (above_frame image) numbers.even numbers.whole
       numbers.above_whole (omega (arith, numbers.above_least)) numbers.above_most (omega arith)
       (λ x low high. inl ((omega arith, omega arith), omega arith))
-      (λ sp x low high above. inl ((omega arith, omega arith), above)))
+      (λ sp x low high above. inl ((omega arith, omega arith), above)) pace)
       (λ s t begins handed. record {
         stack = (same_beside (10 ∷ copying_registers) t.regs s.regs handed.others (2 ∷ []) refl).0 ∙ begins.stack;
         there = λ x low high.
@@ -191,19 +192,19 @@ module _ (image : Fields) {needs : Needs} (code : MachineCode) (site : CallSite)
 
   last_stands : IsAt code last_at (JumpRegister 0 1 0)
   last_stands =
-      let last = Placed-right code (leave_at image needs site) (front image) (JumpRegister 0 1 0 ∷ [])
+      let last = Placed-right code (leave_at image needs pace site) (front image pace) (JumpRegister 0 1 0 ∷ [])
       (leave_placed image code site at_site) in
       record { aligned = last.0; word = last.2; in_range = (omega arith, omega arith, omega arith) }
 
-  steps_counted : suc front_steps ≡ leave_steps image site.pointers
+  steps_counted : suc front_steps ≡ leave_steps image pace site.pointers
   steps_counted =
-      let all = leave_steps_are image site.pointers in
+      let all = leave_steps_are image pace site.pointers in
       omega arith
 
-  leaves_here : Leaves image needs code site
+  leaves_here : Leaves image needs pace code site
   leaves_here =
-      let one = does z (leave_at image needs site) (front image)
-      (Placed-left code (leave_at image needs site) (front image) (JumpRegister 0 1 0 ∷ [])
+      let one = does z (leave_at image needs pace site) (front image pace)
+      (Placed-left code (leave_at image needs pace site) (front image pace) (JumpRegister 0 1 0 ∷ [])
       (leave_placed image code site at_site)) front_runs in
       record {
         shown = one.shown;
@@ -215,8 +216,8 @@ module _ (image : Fields) {needs : Needs} (code : MachineCode) (site : CallSite)
               there = can.there;
               ready = can.ready;
             }) in
-            let there : at (leave_at image needs site) d ≡ s = ap (λ p. at p d) (sym can.at_leave) in
-            let left = a.done regs (subst (λ (x : State). CanLeave image needs site regs x) (sym there) can) in
+            let there : at (leave_at image needs pace site) d ≡ s = ap (λ p. at p d) (sym can.at_leave) in
+            let left = a.done regs (subst (λ (x : State). CanLeave image needs pace site regs x) (sym there) can) in
             let last = at last_at a.end in
             record {
               step_count = front_steps;
@@ -224,7 +225,7 @@ module _ (image : Fields) {needs : Needs} (code : MachineCode) (site : CallSite)
               end = last;
               leads = subst (λ (x : State). LeadsWithin code (IsOfCall image site) front_steps x one.shown last) there
                   a.leads;
-              at_last = last_place image needs site;
+              at_last = last_place image needs pace site;
               left = left;
               goes_back = λ even. goes_back code last (regs 1) last_stands
                   (All-head (λ r. a.end.regs r ≡ regs r) 1 (drop 1 kept_registers) left.kept) (can.words 1) even;
@@ -232,4 +233,4 @@ module _ (image : Fields) {needs : Needs} (code : MachineCode) (site : CallSite)
       }
 
 pub leaves : LeavesEverywhere
-leaves image needs code site is at_site = leaves_here image code site is at_site (room_numbers image code site at_site)
+leaves image needs pace code site is at_site = leaves_here image code site is at_site (room_numbers image code site at_site)

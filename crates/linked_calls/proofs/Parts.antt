@@ -18,6 +18,9 @@ use Rattle.linked_calls.proofs.Below.{register_kept, register_value, RegisterOpe
 use Rattle.linked_calls.proofs.Below.{sign_extended, store_code, stores_code, sum_of, Sw, unwritten, upper_fits}
 use Rattle.linked_calls.proofs.Below.{upper_part, with_number, with_numbers, with_register, with_result, written}
 use Rattle.linked_calls.specs.Below.{Addi, Immediate, Upper, Word}
+use Rattle.linked_calls.specs.FunctionCode.{bound_code, far_code}
+use Rattle.linked_calls.specs.declared.pace.Pace.{Pace}
+use Rattle.linked_calls.specs.declared.pace.Pace.TheVariants.{Fast, Small}
 use Rattle.rv_code.specs.declared.instructions.Instr.TheVariants.{Load, Store}
 use Rattle.rv_machine.specs.declared.observation.Event.TheVariants as event
 use Rattle.linked_calls.proofs.Bytes.{number_there}
@@ -79,6 +82,27 @@ address_runs z {P = P} r offset few nonzero other below =
     ∙ ap (λ v. with_result r v s)
     (ap₂ sum_of (register-at one r nonzero ∙ written s.regs r offset nonzero)
     (unwritten s.regs r offset 2 (λ e. other (sym e))))))
+
+-- the end of a loop, which is so many bytes behind x5, in x7
+
+far_runs : (z : Setting) {P : Data → Type 0} (bytes : ℕ) → bytes < 2 ^ 32
+    → Runs z (length (far_code bytes)) (far_code bytes) P (λ s t. t ≡ with_result 7 (sum_of bytes (s.regs 5)) s)
+far_runs z bytes below =
+    number_then z 7 bytes (omega arith) (λ e. omega arith) below Add 7 5 (omega arith) (omega arith)
+
+pub bound_runs : (z : Setting) {P : Data → Type 0} (pace : Pace) (bytes : ℕ) → bytes < 2 ^ 32
+    → Runs z (length (bound_code pace bytes)) (bound_code pace bytes) P
+    (λ s t. t ≡ with_result 7 (sum_of bytes (s.regs 5)) s)
+bound_runs z Fast bytes below = far_runs z bytes below
+bound_runs z {P = P} Small bytes below =
+    let near = Immediate Addi 7 5 bytes ∷ [] in
+    by_near z bytes near (far_code bytes)
+    (λ small. weaken_runs z {P' = P}
+    (computes_runs z (λ q. q == 7) near (λ regs. with_register regs 7 (sum_of (regs 5) (sign_extended 12 bytes)))
+    (simp (lt-ltb bytes 4096 (omega arith))) (λ regs. refl))
+    (λ s given. given)
+    (λ s t given made. made ∙ ap (λ v. with_result 7 v s) (near_sum (s.regs 5) bytes small)))
+    (far_runs z bytes below)
 
 -- A word of the room: x2 is the base, and the word is there at an offset.
 

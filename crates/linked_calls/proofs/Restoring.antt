@@ -19,6 +19,7 @@ use Rattle.linked_calls.proofs.Parts.{address_runs, loads_length, loads_runs, Ma
 use Rattle.linked_calls.proofs.SameRegisters.{AreSame, IsNone, all_differ, first_none, none_of, same_beside}
 use Rattle.linked_calls.proofs.SameRegisters.{still_same, then_none}
 use Rattle.linked_calls.proofs.Zeros.{MayZero, up_runs}
+use Rattle.linked_calls.specs.declared.pace.Pace.{Pace}
 
 -- ra, gp, tp and a0
 abbrev pub others_still : List ℕ
@@ -105,11 +106,11 @@ module _ (z : Setting) (words : List ℕ) (frame room above : ℕ) (even : frame
     restored_bytes s = loads_bytes 0 (frame + room) kept (located s)
 
     -- the room is wiped as well
-    wiped_runs : Runs z (code_steps + runs_steps (room + above)) (code ++ wipe_code (room + above)) BeginsLast
+    wiped_runs : (pace : Pace) → Runs z (code_steps + runs_steps pace (room + above)) (code ++ wipe_code pace (room + above)) BeginsLast
         (λ s t. IsWiped frame (room + above) (restored s) t)
-    wiped_runs =
+    wiped_runs pace =
         makes_then z {P = BeginsLast} {f = restored} restored_runs
-        (up_runs z frame (room + above) even (omega arith) below stores)
+        (up_runs pace z frame (room + above) even (omega arith) below stores)
         (λ s begins. record {
           stack = restored_still s 2 (λ e. omega arith) (none_of saved_registers 2 refl) ∙ begins.stack;
           top = restored_top s begins.stack;
@@ -139,11 +140,11 @@ module _ (z : Setting) (words : List ℕ) (frame room above : ℕ) (even : frame
         (λ q none. unwritten s.regs 5 (sum_of room (s.regs 2)) q none.0) saved_registers refl))
         left))
 
-    pub lasts_run : Runs z (code_steps + runs_steps (room + above) + 14)
-        (code ++ wipe_code (room + above) ++ clear_registers_code scratch_registers) BeginsLast Lasts
-    lasts_run =
+    pub lasts_run : (pace : Pace) → Runs z (code_steps + runs_steps pace (room + above) + 14)
+        (code ++ wipe_code pace (room + above) ++ clear_registers_code scratch_registers) BeginsLast Lasts
+    lasts_run pace =
         then_runs z {P = BeginsLast} {P' = λ s. Unit {0}} {R' = AreCleared scratch_registers} {S = Lasts}
-        wiped_runs
+        (wiped_runs pace)
         (clear_runs z)
         (λ s t begins wiped. tt)
         (λ s t u begins wiped clears.

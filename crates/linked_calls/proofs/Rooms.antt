@@ -12,6 +12,7 @@ use Rattle.linked_calls.proofs.Below.{saved_registers, written_of}
 use Rattle.linked_calls.proofs.Below.{room_base, CallSite}
 use Rattle.linked_calls.proofs.Between.{IsOutsideRoom, PlaceBehind, saved_at}
 use Rattle.linked_calls.proofs.Bytes.{IsOutside}
+use Rattle.linked_calls.specs.declared.pace.Pace.{Pace}
 
 pub record RoomNumbers (image : Fields) (site : CallSite) : Type 0 where
   pub ends : room_base image site + (frame_room image + above_frame image) ≡ site.stack
@@ -55,7 +56,7 @@ needed_own i n fits few =
     let own : (if nat_lt i 8 then i + 1 else 0) ≡ i + 1 = ap (λ b. if b then i + 1 else 0) (lt-ltb i 8 few) in
     omega (arith, own, fits)
 
-pub room_numbers : (image : Fields) {needs : Needs} (code : MachineCode) (site : CallSite) → IsSite image needs code site
+pub room_numbers : (image : Fields) {needs : Needs} {pace : Pace} (code : MachineCode) (site : CallSite) → IsSite image needs pace code site
     → RoomNumbers image site
 room_numbers image code site is =
     let few : length (kept_of image) ≤ 12 = written_few (body_words image.words) saved_registers in

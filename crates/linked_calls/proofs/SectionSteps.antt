@@ -18,16 +18,17 @@ use Rattle.linked_calls.specs.Sections.{argument_section, partly_sections, zeroe
 use Rattle.linked_calls.specs.declared.section.Section.TheVariants.{BlankWord, LoweredStack}
 use Rattle.hepurita.specs.Blank.{Blank}
 use Rattle.hepurita.specs.Needs.{Needs}
+use Rattle.linked_calls.specs.declared.pace.Pace.{Pace}
 
 -- of a frame in which the words that have to be are zeroed
-abbrev pub steps_for : ℕ → Blank → ℕ
-steps_for room None = frame_steps room
-steps_for room (Some offsets) =
-    if are_few room offsets then length (partly_code room offsets) else frame_steps room
+abbrev pub steps_for : Pace → ℕ → Blank → ℕ
+steps_for pace room None = frame_steps pace room
+steps_for pace room (Some offsets) =
+    if are_few pace room offsets then length (partly_code room offsets) else frame_steps pace room
 
-module _ (image : Fields) (pointers : ℕ → ℕ) where
+module _ (image : Fields) (pace : Pace) (pointers : ℕ → ℕ) where
   abbrev steps_of : List Section → ℕ
-  steps_of sections = sum_by (section_steps image pointers) sections
+  steps_of sections = sum_by (section_steps image pace pointers) sections
 
   abbrev room : ℕ
   room = frame_room image
@@ -35,7 +36,7 @@ module _ (image : Fields) (pointers : ℕ → ℕ) where
   -- of an argument that has to stand in its slot
   abbrev pub needed_steps : List Bool → ℕ → Slot → ℕ
   needed_steps spared i slot =
-      if is_skipped spared i slot then 0 else argument_steps image pointers i slot slot.param.form
+      if is_skipped spared i slot then 0 else argument_steps image pace pointers i slot slot.param.form
 
   -- of all arguments from the i-th on
   abbrev pub arguments_steps : List Bool → ℕ → List Slot → ℕ
@@ -46,7 +47,7 @@ module _ (image : Fields) (pointers : ℕ → ℕ) where
   abbrev pub output_steps : ℕ → Slot → Form → ℕ
   output_steps i slot SingleWord = 0
   output_steps i slot FixedArray = 0
-  output_steps i slot MutableArray = handed_steps image i slot (pointers i)
+  output_steps i slot MutableArray = handed_steps image pace i slot (pointers i)
 
   abbrev pub outputs_steps : ℕ → List Slot → ℕ
   outputs_steps i [] = 0
@@ -55,19 +56,19 @@ module _ (image : Fields) (pointers : ℕ → ℕ) where
   -- Before the body.
 
   zeroed_steps_by : (b : Bool) → steps_of (if b then [] else FrameBase ∷ ClearedFrame ∷ [])
-      ≡ (if b then 0 else length (constant_code 5 room) + 1 + runs_steps room)
+      ≡ (if b then 0 else length (constant_code 5 room) + 1 + runs_steps pace room)
   zeroed_steps_by true = refl
   zeroed_steps_by false =
       let e = length-append (constant_code 5 room) (Register Sub 5 2 5 ∷ []) in
-      let steps : 0 + length (constant_code 5 room ++ Register Sub 5 2 5 ∷ []) + runs_steps room
-      ≡ length (constant_code 5 room) + 1 + runs_steps room = omega arith in
+      let steps : 0 + length (constant_code 5 room ++ Register Sub 5 2 5 ∷ []) + runs_steps pace room
+      ≡ length (constant_code 5 room) + 1 + runs_steps pace room = omega arith in
       steps
 
   blanks_steps : (offsets : List ℕ) → steps_of (map BlankWord offsets) ≡ length (blanks_code offsets)
   blanks_steps [] = refl
   blanks_steps (offset ∷ offsets) =
       let more : 1 + length (blanks_code offsets) ≡ length (blanks_code (offset ∷ offsets)) = omega arith in
-      sum_by-cons (section_steps image pointers) (BlankWord offset) (map BlankWord offsets)
+      sum_by-cons (section_steps image pace pointers) (BlankWord offset) (map BlankWord offsets)
       ∙ (ap (λ n. 1 + n) (blanks_steps offsets) ∙ more)
 
   -- those of a frame of which some words are zeroed are as many as its instructions
@@ -75,34 +76,34 @@ module _ (image : Fields) (pointers : ℕ → ℕ) where
       ≡ length (if b then [] else lowered_code room ++ blanks_code offsets)
   partly_steps offsets true = refl
   partly_steps offsets false =
-      sum_by-cons (section_steps image pointers) LoweredStack (map BlankWord offsets)
+      sum_by-cons (section_steps image pace pointers) LoweredStack (map BlankWord offsets)
       ∙ (ap (λ n. length (lowered_code room) + n) (blanks_steps offsets)
       ∙ sym (length-append (lowered_code room) (blanks_code offsets)))
 
   frame_steps_by : (offsets : List ℕ) (few : Bool)
       → steps_of (if few then partly_sections room offsets else zeroed_sections room)
-      ≡ (if few then length (partly_code room offsets) else frame_steps room)
+      ≡ (if few then length (partly_code room offsets) else frame_steps pace room)
   frame_steps_by offsets true = partly_steps offsets (room == 0)
   frame_steps_by offsets false = zeroed_steps_by (room == 0)
 
-  frame_steps_are : (blank : Blank) → steps_of (frame_sections room blank) ≡ steps_for room blank
+  frame_steps_are : (blank : Blank) → steps_of (frame_sections pace room blank) ≡ steps_for pace room blank
   frame_steps_are None = zeroed_steps_by (room == 0)
-  frame_steps_are (Some offsets) = frame_steps_by offsets (are_few room offsets)
+  frame_steps_are (Some offsets) = frame_steps_by offsets (are_few pace room offsets)
 
   needed_steps_are : (i : ℕ) (slot : Slot) (skipped : Bool)
       → steps_of (if skipped then [] else ArgumentIn i slot ∷ [])
-      ≡ (if skipped then 0 else argument_steps image pointers i slot slot.param.form)
+      ≡ (if skipped then 0 else argument_steps image pace pointers i slot slot.param.form)
   needed_steps_are i slot true = refl
   needed_steps_are i slot false =
-      let one : argument_steps image pointers i slot slot.param.form + 0
-      ≡ argument_steps image pointers i slot slot.param.form = omega arith in
-      sum_by-cons (section_steps image pointers) (ArgumentIn i slot) [] ∙ one
+      let one : argument_steps image pace pointers i slot slot.param.form + 0
+      ≡ argument_steps image pace pointers i slot slot.param.form = omega arith in
+      sum_by-cons (section_steps image pace pointers) (ArgumentIn i slot) [] ∙ one
 
   arguments_steps_are : (spared : List Bool) (i : ℕ) (slots : List Slot)
       → steps_of (argument_sections spared i slots) ≡ arguments_steps spared i slots
   arguments_steps_are spared i [] = refl
   arguments_steps_are spared i (slot ∷ slots) =
-      sum_by-append (section_steps image pointers) (argument_section spared i slot)
+      sum_by-append (section_steps image pace pointers) (argument_section spared i slot)
       (argument_sections spared (i + 1) slots)
       ∙ ap₂ (λ m n. m + n) (needed_steps_are i slot (is_skipped spared i slot))
       (arguments_steps_are spared (i + 1) slots)
@@ -113,18 +114,18 @@ module _ (image : Fields) (pointers : ℕ → ℕ) where
 
   -- the entry's, and then the frame's and the arguments'
   pub enter_steps_are : (needs : Needs)
-      → enter_steps image needs pointers
-      ≡ entry_steps + steps_for room needs.blank + arguments_steps needs.spared 0 image.slots
+      → enter_steps image needs pace pointers
+      ≡ entry_steps + steps_for pace room needs.blank + arguments_steps needs.spared 0 image.slots
   enter_steps_are needs =
       let entry = RoomAboveFrame ∷ SavedRegisters ∷ ArgumentRegisters ∷ [] in
-      let framed = frame_sections room needs.blank in
+      let framed = frame_sections pace room needs.blank in
       let arguments = argument_sections needs.spared 0 image.slots in
       let kept = stores_length 2 0 (kept_of image) in
       let passed = stores_length 2 (first_argument image) (needed_of image) in
       let counted : steps_of entry ≡ entry_steps = omega arith in
-      sum-map (section_steps image pointers) (entry ++ framed ++ arguments)
-      ∙ sum_by-append (section_steps image pointers) (entry ++ framed) arguments
-      ∙ ap₂ (λ a b. a + b) (sum_by-append (section_steps image pointers) entry framed
+      sum-map (section_steps image pace pointers) (entry ++ framed ++ arguments)
+      ∙ sum_by-append (section_steps image pace pointers) (entry ++ framed) arguments
+      ∙ ap₂ (λ a b. a + b) (sum_by-append (section_steps image pace pointers) entry framed
       ∙ ap₂ (λ a b. a + b) counted (frame_steps_are needs.blank)) (arguments_steps_are needs.spared 0 image.slots)
 
   -- Behind it.
@@ -137,7 +138,7 @@ module _ (image : Fields) (pointers : ℕ → ℕ) where
   arrays_steps_are : (i : ℕ) (slots : List Slot) → steps_of (array_sections i slots) ≡ outputs_steps i slots
   arrays_steps_are i [] = refl
   arrays_steps_are i (slot ∷ slots) =
-      sum_by-append (section_steps image pointers) (array_section i slot slot.param.form) (array_sections (i + 1) slots)
+      sum_by-append (section_steps image pace pointers) (array_section i slot slot.param.form) (array_sections (i + 1) slots)
       ∙ ap₂ (λ m n. m + n) (array_steps_are i slot slot.param.form) (arrays_steps_are (i + 1) slots)
 
   abbrev lasts : List Section
@@ -145,16 +146,16 @@ module _ (image : Fields) (pointers : ℕ → ℕ) where
 
   -- the registers restored and cleared, and the room wiped
   abbrev pub last_steps : ℕ
-  last_steps = length (address_code 5 room) + runs_steps (room_of image)
+  last_steps = length (address_code 5 room) + runs_steps pace (room_of image)
       + (length (kept_of image) + 16)
 
-  pub leave_steps_are : leave_steps image pointers ≡ length (result_code image.returned) +
+  pub leave_steps_are : leave_steps image pace pointers ≡ length (result_code image.returned) +
       (outputs_steps 0 image.slots + last_steps)
   leave_steps_are =
       let kept = loads_length 5 0 (kept_of image) in
       let counted : steps_of lasts ≡ last_steps = omega arith in
-      sum-map (section_steps image pointers) (leave_sections image)
-      ∙ sum_by-cons (section_steps image pointers) ResultOut (array_sections 0 image.slots ++ lasts)
+      sum-map (section_steps image pace pointers) (leave_sections image)
+      ∙ sum_by-cons (section_steps image pace pointers) ResultOut (array_sections 0 image.slots ++ lasts)
       ∙ ap (λ n. length (result_code image.returned) + n)
-      (sum_by-append (section_steps image pointers) (array_sections 0 image.slots) lasts
+      (sum_by-append (section_steps image pace pointers) (array_sections 0 image.slots) lasts
       ∙ ap₂ (λ m n. m + n) (arrays_steps_are 0 image.slots) counted)

@@ -9,6 +9,7 @@ use Rattle.linked_calls.proofs.Below.{Placed, CallSite, Stand}
 use Rattle.linked_calls.proofs.Between.{body_at, leave_at}
 use Rattle.linked_calls.specs.Below.{word_of}
 use Rattle.linked_calls.proofs.Pieces.{placed}
+use Rattle.linked_calls.specs.declared.pace.Pace.{Pace}
 
 -- Words, one list after another.
 
@@ -26,50 +27,50 @@ stand_then code p (x ∷ xs) ys h =
 
 -- The function.
 
-abbrev enter_words : Fields → Needs → List ℕ
-enter_words image needs = map word_of (enter_code image needs)
+abbrev enter_words : Fields → Needs → Pace → List ℕ
+enter_words image needs pace = map word_of (enter_code image needs pace)
 
-abbrev leave_words : Fields → List ℕ
-leave_words image = map word_of (leave_code image)
+abbrev leave_words : Fields → Pace → List ℕ
+leave_words image pace = map word_of (leave_code image pace)
 
-words_are : (image : Fields) (needs : Needs)
-    → function_words image needs ≡ enter_words image needs ++ body_words image.words ++ leave_words image
+words_are : (image : Fields) (needs : Needs) (pace : Pace)
+    → function_words image needs pace ≡ enter_words image needs pace ++ body_words image.words ++ leave_words image pace
 unfolding function_words
-words_are image needs = refl
+words_are image needs pace = refl
 
 -- how many words it has
-pub function_length : (image : Fields) (needs : Needs) → length (function_words image needs)
-    ≡ length (enter_code image needs) + length (body_words image.words) + length (leave_code image)
-function_length image needs =
-    ap length (words_are image needs)
-    ∙ length-append (enter_words image needs ++ body_words image.words) (leave_words image)
-    ∙ ap₂ (λ a b. a + b) (length-append (enter_words image needs) (body_words image.words)
-    ∙ ap (λ a. a + length (body_words image.words)) (length-map (enter_code image needs) word_of))
-    (length-map (leave_code image) word_of)
+pub function_length : (image : Fields) (needs : Needs) (pace : Pace) → length (function_words image needs pace)
+    ≡ length (enter_code image needs pace) + length (body_words image.words) + length (leave_code image pace)
+function_length image needs pace =
+    ap length (words_are image needs pace)
+    ∙ length-append (enter_words image needs pace ++ body_words image.words) (leave_words image pace)
+    ∙ ap₂ (λ a b. a + b) (length-append (enter_words image needs pace) (body_words image.words)
+    ∙ ap (λ a. a + length (body_words image.words)) (length-map (enter_code image needs pace) word_of))
+    (length-map (leave_code image pace) word_of)
 
-module _ (image : Fields) {needs : Needs} (code : MachineCode) (site : CallSite) (is : IsSite image needs code site) where
-  all_stand : Stand code site.entry (enter_words image needs ++ body_words image.words ++ leave_words image)
-  all_stand = subst (λ words. Stand code site.entry words) (words_are image needs) is.words
+module _ (image : Fields) {needs : Needs} {pace : Pace} (code : MachineCode) (site : CallSite) (is : IsSite image needs pace code site) where
+  all_stand : Stand code site.entry (enter_words image needs pace ++ body_words image.words ++ leave_words image pace)
+  all_stand = subst (λ words. Stand code site.entry words) (words_are image needs pace) is.words
 
-  entered_stands : Stand code site.entry (enter_words image needs ++ body_words image.words)
-  entered_stands = stand_first code site.entry (enter_words image needs ++ body_words image.words)
-      (leave_words image) all_stand
+  entered_stands : Stand code site.entry (enter_words image needs pace ++ body_words image.words)
+  entered_stands = stand_first code site.entry (enter_words image needs pace ++ body_words image.words)
+      (leave_words image pace) all_stand
 
-  pub enter_placed : Placed code site.entry (enter_code image needs)
-  enter_placed = placed code site.entry (enter_code image needs)
-      (stand_first code site.entry (enter_words image needs) (body_words image.words) entered_stands)
+  pub enter_placed : Placed code site.entry (enter_code image needs pace)
+  enter_placed = placed code site.entry (enter_code image needs pace)
+      (stand_first code site.entry (enter_words image needs pace) (body_words image.words) entered_stands)
 
-  pub body_stands : Stand code (body_at image needs site) (body_words image.words)
+  pub body_stands : Stand code (body_at image needs pace site) (body_words image.words)
   body_stands =
-      subst (λ n. Stand code (site.entry + 4 * n) (body_words image.words)) (length-map (enter_code image needs) word_of)
-      (stand_then code site.entry (enter_words image needs) (body_words image.words) entered_stands)
+      subst (λ n. Stand code (site.entry + 4 * n) (body_words image.words)) (length-map (enter_code image needs pace) word_of)
+      (stand_then code site.entry (enter_words image needs pace) (body_words image.words) entered_stands)
 
-  pub leave_placed : Placed code (leave_at image needs site) (leave_code image)
+  pub leave_placed : Placed code (leave_at image needs pace site) (leave_code image pace)
   leave_placed =
       let words = body_words image.words in
-      let a = length-append (enter_words image needs) words in
-      let b = length-map (enter_code image needs) word_of in
-      let e : site.entry + 4 * length (enter_words image needs ++ words) ≡ leave_at image needs site = omega arith in
-      placed code (leave_at image needs site) (leave_code image)
-      (subst (λ q. Stand code q (leave_words image)) e
-      (stand_then code site.entry (enter_words image needs ++ words) (leave_words image) all_stand))
+      let a = length-append (enter_words image needs pace) words in
+      let b = length-map (enter_code image needs pace) word_of in
+      let e : site.entry + 4 * length (enter_words image needs pace ++ words) ≡ leave_at image needs pace site = omega arith in
+      placed code (leave_at image needs pace site) (leave_code image pace)
+      (subst (λ q. Stand code q (leave_words image pace)) e
+      (stand_then code site.entry (enter_words image needs pace ++ words) (leave_words image pace) all_stand))

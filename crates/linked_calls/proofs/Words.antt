@@ -9,13 +9,13 @@ use Rattle.std.proofs.lemmas.Bool.Decides.{nat_tests}
 use Rattle.std.proofs.lemmas.Nat.{and_mask}
 use Rattle.codegen.proofs.program_logic_lemmas.Counted.{as_straight, computes_runs, makes_on, Runs, Setting}
 use Rattle.codegen.proofs.program_logic_lemmas.Counted.{weaken_runs}
-use Rattle.linked_calls.proofs.Below.{AreData, argument_code, Boolean, ByteMap, CanBePut, Instr}
+use Rattle.linked_calls.proofs.Below.{AreData, Boolean, ByteMap, CanBePut, Instr}
 use Rattle.linked_calls.proofs.Below.{register, register-at, stacked_offset, store_code, with_argument}
 use Rattle.linked_calls.proofs.Below.{written}
 use Rattle.language.specs.declared.values.Arg.TheVariants as arg
 use Rattle.linked_calls.proofs.Below.{Data, Fields, HasResultSlot, HasWordArgument, IsLoadOf, IsArgumentPut, IsPutting}
 use Rattle.linked_calls.proofs.Below.{IsReturned, Kind, load_code, meant, meant_code, number_at, number_or_zero}
-use Rattle.linked_calls.proofs.Below.{only_computes, registers_after, ResultIsHandedBack, shift_value, SingleWord}
+use Rattle.linked_calls.proofs.Below.{only_computes, registers_after, ResultIsHandedBack, shift_value}
 use Rattle.linked_calls.proofs.Below.{Slli, Slot, Srli, Uint16, Uint32, Uint8, unwritten, with_number}
 use Rattle.linked_calls.proofs.Below.{with_register, with_result, WordIsTaken}
 use Rattle.linked_calls.specs.Below.{Word}
@@ -24,6 +24,7 @@ use Rattle.word.specs.Operators.{word_of}
 use Rattle.linked_calls.proofs.Bytes.{number_there, same_truth, with_number_cut}
 use Rattle.linked_calls.proofs.Parts.{load_runs, overwritten, same_number, store_runs}
 use Rattle.linked_calls.proofs.Pieces.{does, placed}
+use Rattle.linked_calls.specs.FunctionCode.{word_code}
 
 -- What a word is made by the code of its kind: the number that is put as a word is the same.
 
@@ -157,7 +158,7 @@ module _ (z : Setting) (image : Fields) (slot : Slot) (frame i : ℕ) (can : Can
       done false h s u (raw s) (sym (same_number (number_at s.bytes 4 (frame + offset)))) put.bytes
       (λ q g k. put.others q g k ∙ unwritten s.regs 5 (raw s) q g)))
 
-  pub word_runs : Runs z (length (argument_code image i slot SingleWord)) (argument_code image i slot SingleWord)
+  pub word_runs : Runs z (length (word_code image i slot)) (word_code image i slot)
       (HasWordArgument image slot frame i) (IsArgumentPut image slot frame i)
   word_runs = word_by (nat_lt i 8) refl
 
@@ -168,7 +169,7 @@ word_is_taken code start image slot frame i there can =
       allowed = IsPutting (frame + stacked_offset image i) (frame + slot.offset);
       silent = λ sp. tt;
     } in
-    let is = argument_code image i slot SingleWord in
+    let is = word_code image i slot in
     does z start is (placed code start is there)
     (word_runs z image slot frame i can (λ many. (refl, refl, omega arith)) (refl, refl, omega arith))
 

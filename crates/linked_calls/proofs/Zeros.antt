@@ -1,5 +1,5 @@
 -- The code that zeroes a frame, and the code that wipes a room: the words beside the runs, and then a loop over runs of
--- 16 words, downward over the frame, and upward over all the room.
+-- some words, downward over the frame, and upward over all the room.
 use Rattle.std.proofs.Common.{◌≡◌, ◌≢◌, ℕ, zero, suc, ◌+◌, ◌-◌, ◌*◌, ◌/◌, ◌%◌, ◌^◌, ◌<◌, ◌≤◌, ◌==◌, Bool, true, false}
 use Rattle.std.proofs.Common.{List, [], ◌∷◌, ◌++◌, length, map, Some, refl, sym, ap, ◌∙◌, subst, arith, append_assoc}
 use Rattle.std.proofs.Common.{length-append, if◌then◌else◌}
@@ -16,7 +16,10 @@ use Rattle.linked_calls.proofs.Below.{stores_code, Sub, sum_of, until_equal, unw
 use Rattle.linked_calls.proofs.Below.{with_numbers, with_register, with_result, zeros_code}
 use Rattle.linked_calls.proofs.Bytes.{no_zeros, is_some-with_numbers, zeroed_words, zeros_down, zeros_up}
 use Rattle.linked_calls.specs.Below.{Store, Word}
-use Rattle.linked_calls.specs.FunctionCode.{zeroed_code}
+use Rattle.linked_calls.specs.FunctionCode.{run_count, zeroed_code}
+use Rattle.linked_calls.specs.Paces.{run_words}
+use Rattle.linked_calls.specs.declared.pace.Pace.{Pace}
+use Rattle.linked_calls.specs.declared.pace.Pace.TheVariants.{Fast, Small}
 use Rattle.linked_calls.proofs.Parts.{are_registers, number_then, stores_runs}
 use Rattle.linked_calls.proofs.Pieces.{does, placed}
 
@@ -160,35 +163,36 @@ module _ (z : Setting) (bottom top : ℕ) (below : top < 2 ^ 32) (may : MayZero 
         others = λ q h. unwritten s.regs 2 next q h;
       }))
 
-  -- Runs of 16 words, each by a body: where x2 is before it, where it lies, and what is zeros then.
-  module _ (rounds : ℕ) (body : List Instr) (size : length body ≡ 17) (stop : ℕ) (x a low high : ℕ → ℕ)
-      (inside : (i : ℕ) → i < rounds → (bottom ≤ a i) × (a i + 64 ≤ top))
+  -- Runs of so many words, each by a body: where x2 is before it, where it lies, and what is zeros then.
+  module _ (words : ℕ) (few_words : words ≤ 16) (rounds : ℕ) (body : List Instr) (size : length body ≡ words + 1)
+      (stop : ℕ) (x a low high : ℕ → ℕ)
+      (inside : (i : ℕ) → i < rounds → (bottom ≤ a i) × (a i + 4 * words ≤ top))
       (block_runs : (i : ℕ) → i < rounds
-      → Runs z 17 body (HasBlock 16 (x i) (a i)) (λ s t. t ≡ block 16 (a i) (x (suc i)) s))
+      → Runs z (words + 1) body (HasBlock words (x i) (a i)) (λ s t. t ≡ block words (a i) (x (suc i)) s))
       (joined : (i : ℕ) (one two three : ByteMap) → i < rounds → AreZeroed (low i) (high i) one two
-      → AreZeroed (a i) (a i + 64) two three → AreZeroed (low (suc i)) (high (suc i)) one three)
+      → AreZeroed (a i) (a i + 4 * words) two three → AreZeroed (low (suc i)) (high (suc i)) one three)
       (apart : (i : ℕ) → i < rounds → x i ≢ stop) (ends : x rounds ≡ stop) (none : high 0 ≤ low 0)
       (some : 0 < rounds) where
     abbrev Zeroed : ℕ → Data → Data → Type 0
     Zeroed i = Zeroing (x i) stop (low i) (high i)
 
-    here : (i : ℕ) → i < rounds → (s d : Data) → Zeroed i s d → HasBlock 16 (x i) (a i) d
+    here : (i : ℕ) → i < rounds → (s d : Data) → Zeroed i s d → HasBlock words (x i) (a i) d
     here i few s d held =
         let lies = inside i few in
-        block_there 16 (x i) (a i) d lies.0 lies.1 held.stack held.there
+        block_there words (x i) (a i) d lies.0 lies.1 held.stack held.there
 
-    one_more : (i : ℕ) → i < rounds → (s d : Data) → Zeroed i s d → Zeroed (suc i) s (block 16 (a i) (x (suc i)) d)
+    one_more : (i : ℕ) → i < rounds → (s d : Data) → Zeroed i s d → Zeroed (suc i) s (block words (a i) (x (suc i)) d)
     one_more i few s d held = record {
       stack = refl;
       last = held.last;
-      there = λ y l h. is_some-with_numbers d.bytes 4 (a i) (replicate 16 0) (here i few s d held).there y
+      there = λ y l h. is_some-with_numbers d.bytes 4 (a i) (replicate words 0) (zeros_there d.bytes (a i) words (here i few s d held).there) y
           ∙ held.there y l h;
-      zeroed = joined i s.bytes d.bytes (with_numbers d.bytes 4 (a i) (replicate 16 0)) few held.zeroed
-          (zeroed_words d.bytes (a i) 16);
+      zeroed = joined i s.bytes d.bytes (with_numbers d.bytes 4 (a i) (replicate words 0)) few held.zeroed
+          (zeroed_words d.bytes (a i) words);
       others = λ q h. unwritten d.regs 2 (x (suc i)) q h ∙ held.others q h;
     }
 
-    loop_runs : Runs z (18 * rounds) (until_equal 2 5 body) (Begins (x 0) stop) (Zeroed rounds)
+    loop_runs : Runs z ((words + 2) * rounds) (until_equal 2 5 body) (Begins (x 0) stop) (Zeroed rounds)
     loop_runs =
         in_steps z (omega arith)
         (loop z 2 5 (omega arith, omega arith) body (omega arith) (omega arith) rounds Zeroed
@@ -236,19 +240,63 @@ module _ (z : Setting) (bottom top : ℕ) (below : top < 2 ^ 32) (may : MayZero 
         others = λ q d. second.others q d ∙ first.others q d;
       })
 
-module _ (z : Setting) (bottom room : ℕ) (even : bottom % 16 ≡ 0) (whole : room % 16 ≡ 0)
+-- The numbers of a room at a pace.
+
+-- its words are those beside the runs, and those of the runs
+all_words : (pace : Pace) (room : ℕ) → room % 16 ≡ 0
+    → 4 * rest_words pace room + 4 * (run_words pace * run_count pace room) ≡ room
+all_words Fast room whole = omega arith
+all_words Small room whole = omega arith
+
+rest_few : (pace : Pace) (room : ℕ) → rest_words pace room ≤ 16
+rest_few Fast room = omega arith
+rest_few Small room = omega arith
+
+run_some : (pace : Pace) → 0 < run_words pace
+run_some Fast = omega arith
+run_some Small = omega arith
+
+run_few : (pace : Pace) → run_words pace ≤ 16
+run_few Fast = omega arith
+run_few Small = omega arith
+
+-- so many runs, and one more
+runs_fit : (pace : Pace) (i k : ℕ) → i < k → run_words pace * i + run_words pace ≤ run_words pace * k
+runs_fit Fast i k few = omega arith
+runs_fit Small i k few = omega arith
+
+-- the instructions of a run
+down_length : (count : ℕ) → length (down_code count) ≡ count + 1
+down_length count = omega (arith, zeros_length 0 count)
+
+up_length : (count : ℕ) → length (up_code count) ≡ count + 1
+up_length count = length-append (zeros_code count) (added 2 (4 * count) ∷ []) ∙ ap (λ n. n + 1) (zeros_length 0 count)
+
+module _ (pace : Pace) (z : Setting) (bottom room : ℕ) (even : bottom % 16 ≡ 0) (whole : room % 16 ≡ 0)
     (below : bottom + room < 2 ^ 32) (may : MayZero z bottom (bottom + room)) where
   abbrev top : ℕ
   top = bottom + room
 
   abbrev rest : ℕ
-  rest = rest_words room
+  rest = rest_words pace room
+
+  abbrev words : ℕ
+  words = run_words pace
 
   abbrev rounds : ℕ
-  rounds = room / 64
+  rounds = run_count pace room
 
-  parts : 4 * rest + 64 * rounds ≡ room
-  parts = omega arith
+  parts : 4 * rest + 4 * (words * rounds) ≡ room
+  parts = all_words pace room whole
+
+  few : rest ≤ 16
+  few = rest_few pace room
+
+  some_words : 0 < words
+  some_words = run_some pace
+
+  few_words : words ≤ 16
+  few_words = run_few pace
 
   abbrev Starts : ℕ → ℕ → Data → Type 0
   Starts x stop = Begins z bottom top below may x stop
@@ -272,6 +320,7 @@ module _ (z : Setting) (bottom room : ℕ) (even : bottom % 16 ≡ 0) (whole : r
   rest_down false some =
       let differ = eqb-false rest 0 some in
       let is = parts in
+      let short = few in
       let end : middle_down + 4 * rest ≡ top = omega arith in
       subst (λ h. Runs z (rest + 1) (down_code rest) (Starts top bottom) (Zeroes middle_down bottom middle_down h)) end
       (in_steps z (omega arith)
@@ -281,40 +330,46 @@ module _ (z : Setting) (bottom room : ℕ) (even : bottom % 16 ≡ 0) (whole : r
 
   -- where x2 is after so many
   abbrev down_at : ℕ → ℕ
-  down_at i = middle_down - 64 * i
+  down_at i = middle_down - 4 * (words * i)
 
   runs_down : (b : Bool) → (rounds == 0) ≡ b
-      → Runs z (18 * rounds) (if b then [] else until_equal 2 5 (down_code 16)) (Starts middle_down bottom)
+      → Runs z ((words + 2) * rounds) (if b then [] else until_equal 2 5 (down_code words)) (Starts middle_down bottom)
       (Zeroes bottom bottom bottom middle_down)
   runs_down true none =
       let no_rounds : rounds ≡ 0 = eqb-true rounds 0 none in
-      let is = parts in
+      let is : 4 * rest + 4 * (words * 0) ≡ room = subst (λ n. 4 * rest + 4 * (words * n) ≡ room) no_rounds parts in
       let same : middle_down ≡ bottom = omega arith in
-      let no_steps : 0 ≡ 18 * rounds = omega arith in
+      let no_steps : 0 ≡ (words + 2) * rounds = subst (λ n. 0 ≡ (words + 2) * n) (sym no_rounds) (omega arith) in
       in_steps z no_steps
       (subst (λ x. Runs z 0 [] (Starts x bottom) (Zeroes bottom bottom bottom x)) (sym same)
       (none_runs z bottom top below may bottom bottom bottom bottom (omega arith)))
   runs_down false some =
       let differ = eqb-false rounds 0 some in
       let is = parts in
+      let more = some_words in
+      let short = few_words in
       let end : down_at rounds ≡ bottom = omega arith in
       let begin : down_at 0 ≡ middle_down = omega arith in
-      subst (λ x. Runs z (18 * rounds) (until_equal 2 5 (down_code 16)) (Starts x bottom)
+      subst (λ x. Runs z ((words + 2) * rounds) (until_equal 2 5 (down_code words)) (Starts x bottom)
       (Zeroes bottom bottom bottom x)) begin
-      (subst (λ x. Runs z (18 * rounds) (until_equal 2 5 (down_code 16)) (Starts (down_at 0) bottom)
+      (subst (λ x. Runs z ((words + 2) * rounds) (until_equal 2 5 (down_code words)) (Starts (down_at 0) bottom)
       (Zeroes x bottom x (down_at 0))) end
-      (loop_runs z bottom top below may rounds (down_code 16) refl bottom down_at (λ i. down_at (suc i)) down_at
-      (λ i. down_at 0)
-      (λ i few. (omega arith, omega arith))
-      (λ i few. down_run z bottom top below may 16 (down_at i) (down_at (suc i)) (omega arith) (omega arith)
-      (omega arith) (omega arith) (omega arith) (omega arith))
+      (loop_runs z bottom top below may words short rounds (down_code words) (down_length words) bottom down_at
+      (λ i. down_at (suc i)) down_at (λ i. down_at 0)
+      (λ i few. let fits = runs_fit pace i rounds few in (omega arith, omega arith))
+      (λ i few.
+      let fits = runs_fit pace i rounds few in
+      in_steps z (omega arith)
+      (down_run z bottom top below may words (down_at i) (down_at (suc i)) (omega arith) (omega arith)
+      (omega arith) (omega arith) (omega arith) (omega arith)))
       (λ i one two three few zeroed more.
-      let next : down_at (suc i) + 64 ≡ down_at i = omega arith in
+      let fits = runs_fit pace i rounds few in
+      let next : down_at (suc i) + 4 * words ≡ down_at i = omega arith in
       zeros_down (down_at (suc i)) (down_at i) (down_at 0) one two three (omega arith) (omega arith) zeroed
       (subst (λ y. AreZeroed (down_at (suc i)) y two three) next more))
-      (λ i few same. omega arith) (omega arith) (omega arith) (omega arith)))
+      (λ i few same. let fits = runs_fit pace i rounds few in omega arith) (omega arith) (omega arith) (omega arith)))
 
-  down_runs : Runs z (runs_steps room) (runs_code down_code room) (Starts top bottom) (Zeroes bottom bottom bottom top)
+  down_runs : Runs z (runs_steps pace room) (runs_code pace down_code room) (Starts top bottom) (Zeroes bottom bottom bottom top)
   down_runs =
       let is = parts in
       both_run z bottom top below may top middle_down bottom bottom middle_down top bottom middle_down bottom top
@@ -337,43 +392,49 @@ module _ (z : Setting) (bottom room : ℕ) (even : bottom % 16 ≡ 0) (whole : r
       (none_runs z bottom top below may bottom top bottom bottom (omega arith))
   rest_up false some =
       let is = parts in
+      let short = few in
       first_words z bottom top below may rest bottom bottom middle_up top (omega arith) (omega arith)
       (up_run z bottom top below may rest bottom middle_up (omega arith) refl (omega arith) (omega arith) (omega arith))
 
   abbrev up_at : ℕ → ℕ
-  up_at i = middle_up + 64 * i
+  up_at i = middle_up + 4 * (words * i)
 
   runs_up : (b : Bool) → (rounds == 0) ≡ b
-      → Runs z (18 * rounds) (if b then [] else until_equal 2 5 (up_code 16)) (Starts middle_up top)
+      → Runs z ((words + 2) * rounds) (if b then [] else until_equal 2 5 (up_code words)) (Starts middle_up top)
       (Zeroes top top middle_up top)
   runs_up true none =
       let no_rounds : rounds ≡ 0 = eqb-true rounds 0 none in
-      let is = parts in
+      let is : 4 * rest + 4 * (words * 0) ≡ room = subst (λ n. 4 * rest + 4 * (words * n) ≡ room) no_rounds parts in
       let same : middle_up ≡ top = omega arith in
-      let no_steps : 0 ≡ 18 * rounds = omega arith in
+      let no_steps : 0 ≡ (words + 2) * rounds = subst (λ n. 0 ≡ (words + 2) * n) (sym no_rounds) (omega arith) in
       in_steps z no_steps
       (subst (λ x. Runs z 0 [] (Starts x top) (Zeroes top top x top)) (sym same)
       (none_runs z bottom top below may top top top top (omega arith)))
   runs_up false some =
       let differ = eqb-false rounds 0 some in
       let is = parts in
+      let more = some_words in
+      let short = few_words in
       let end : up_at rounds ≡ top = omega arith in
       let begin : up_at 0 ≡ middle_up = omega arith in
-      subst (λ x. Runs z (18 * rounds) (until_equal 2 5 (up_code 16)) (Starts x top) (Zeroes top top middle_up top))
+      subst (λ x. Runs z ((words + 2) * rounds) (until_equal 2 5 (up_code words)) (Starts x top) (Zeroes top top middle_up top))
       begin
-      (subst (λ x. Runs z (18 * rounds) (until_equal 2 5 (up_code 16)) (Starts (up_at 0) top)
+      (subst (λ x. Runs z ((words + 2) * rounds) (until_equal 2 5 (up_code words)) (Starts (up_at 0) top)
       (Zeroes x top middle_up x)) end
-      (loop_runs z bottom top below may rounds (up_code 16) refl top up_at up_at (λ i. middle_up) up_at
-      (λ i few. (omega arith, omega arith))
-      (λ i few. up_run z bottom top below may 16 (up_at i) (up_at (suc i)) (omega arith) (omega arith) (omega arith)
+      (loop_runs z bottom top below may words short rounds (up_code words) (up_length words) top up_at up_at
+      (λ i. middle_up) up_at
+      (λ i few. let fits = runs_fit pace i rounds few in (omega arith, omega arith))
+      (λ i few.
+      let fits = runs_fit pace i rounds few in
+      up_run z bottom top below may words (up_at i) (up_at (suc i)) (omega arith) (omega arith) (omega arith)
       (omega arith) (omega arith))
       (λ i one two three few zeroed more.
-      let next : up_at i + 64 ≡ up_at (suc i) = omega arith in
+      let next : up_at i + 4 * words ≡ up_at (suc i) = omega arith in
       zeros_up middle_up (up_at i) (up_at (suc i)) one two three (omega arith) (omega arith) zeroed
       (subst (λ y. AreZeroed (up_at i) y two three) next more))
-      (λ i few same. omega arith) end (omega arith) (omega arith)))
+      (λ i few same. let fits = runs_fit pace i rounds few in omega arith) end (omega arith) (omega arith)))
 
-  pub up_runs : Runs z (runs_steps room) (wipe_code room) (HasRoomBounds bottom room) (IsWiped bottom room)
+  pub up_runs : Runs z (runs_steps pace room) (wipe_code pace room) (HasRoomBounds bottom room) (IsWiped bottom room)
   up_runs =
       let is = parts in
       weaken_runs z
@@ -386,12 +447,12 @@ module _ (z : Setting) (bottom room : ℕ) (even : bottom % 16 ≡ 0) (whole : r
 
   -- The frame: x5 is the number of bytes, and then the bottom.
 
-  frame_runs : Runs z (length (constant_code 5 room) + 1 + runs_steps room)
-      ((constant_code 5 room ++ Register Sub 5 2 5 ∷ []) ++ runs_code down_code room) (HasFrame bottom room)
+  frame_runs : Runs z (length (constant_code 5 room) + 1 + runs_steps pace room)
+      ((constant_code 5 room ++ Register Sub 5 2 5 ∷ []) ++ runs_code pace down_code room) (HasFrame bottom room)
       (IsZeroFrame bottom room)
   frame_runs =
       in_steps z
-      (ap (λ n. n + runs_steps room) (length-append (constant_code 5 room) (Register Sub 5 2 5 ∷ [])))
+      (ap (λ n. n + runs_steps pace room) (length-append (constant_code 5 room) (Register Sub 5 2 5 ∷ [])))
       (makes_then z {P = HasFrame bottom room} {f = λ s. with_result 5 (difference_of (s.regs 2) room) s}
       {S = IsZeroFrame bottom room}
       (number_then z 5 room (omega arith) (λ e. omega arith) (omega arith) Sub 2 5 (omega arith) (omega arith))
@@ -404,14 +465,14 @@ module _ (z : Setting) (bottom room : ℕ) (even : bottom % 16 ≡ 0) (whole : r
       }))
 
 -- the code of a frame, which is none where the frame has no room
-pub zeroed_runs : (z : Setting) (bottom room : ℕ) → bottom % 16 ≡ 0 → room % 16 ≡ 0 → bottom + room < 2 ^ 32
+pub zeroed_runs : (pace : Pace) (z : Setting) (bottom room : ℕ) → bottom % 16 ≡ 0 → room % 16 ≡ 0 → bottom + room < 2 ^ 32
     → MayZero z bottom (bottom + room)
-    → Runs z (frame_steps room) (zeroed_code room) (HasFrame bottom room) (IsZeroFrame bottom room)
-zeroed_runs z bottom room even whole below may = by (room == 0) refl
+    → Runs z (frame_steps pace room) (zeroed_code pace room) (HasFrame bottom room) (IsZeroFrame bottom room)
+zeroed_runs pace z bottom room even whole below may = by (room == 0) refl
   where
     by : (b : Bool) → (room == 0) ≡ b
-        → Runs z (if b then 0 else length (constant_code 5 room) + 1 + runs_steps room)
-        (if b then [] else constant_code 5 room ++ Register Sub 5 2 5 ∷ runs_code down_code room) (HasFrame bottom room) (IsZeroFrame bottom room)
+        → Runs z (if b then 0 else length (constant_code 5 room) + 1 + runs_steps pace room)
+        (if b then [] else constant_code 5 room ++ Register Sub 5 2 5 ∷ runs_code pace down_code room) (HasFrame bottom room) (IsZeroFrame bottom room)
     by true none =
         let no_room : room ≡ 0 = eqb-true room 0 none in
         no_code z
@@ -421,17 +482,17 @@ zeroed_runs z bottom room even whole below may = by (room == 0) refl
           others = λ q h k. refl;
         })
     by false some =
-        as_code z (append_assoc (constant_code 5 room) (Register Sub 5 2 5 ∷ []) (runs_code down_code room))
-        (frame_runs z bottom room even whole below may)
+        as_code z (append_assoc (constant_code 5 room) (Register Sub 5 2 5 ∷ []) (runs_code pace down_code room))
+        (frame_runs pace z bottom room even whole below may)
 
 pub frame_is_zeroed : FrameIsZeroed
-frame_is_zeroed code start bottom room there even whole below =
+frame_is_zeroed code pace start bottom room there even whole below =
     let z = storing code bottom room in
-    does z start (zeroed_code room) (placed code start (zeroed_code room) there)
-    (zeroed_runs z bottom room even whole below (λ sp x low high above. ((low, high), above)))
+    does z start (zeroed_code pace room) (placed code start (zeroed_code pace room) there)
+    (zeroed_runs pace z bottom room even whole below (λ sp x low high above. ((low, high), above)))
 
 pub room_is_wiped : RoomIsWiped
-room_is_wiped code start bottom room there even whole below =
+room_is_wiped code pace start bottom room there even whole below =
     let z = storing code bottom room in
-    does z start (wipe_code room) (placed code start (wipe_code room) there)
-    (up_runs z bottom room even whole below (λ sp x low high above. ((low, high), above)))
+    does z start (wipe_code pace room) (placed code start (wipe_code pace room) there)
+    (up_runs pace z bottom room even whole below (λ sp x low high above. ((low, high), above)))

@@ -14,9 +14,10 @@ use Rattle.linked_calls.specs.Called.{IsOfCall, IsLeft}
 use Rattle.linked_calls.specs.Calls.{CallSite, IsSite, IsCalled, arguments_of}
 use Rattle.linked_calls.specs.FunctionCode.{function_words}
 use Rattle.linked_calls.specs.Sections.{around_steps}
+use Rattle.linked_calls.specs.declared.pace.Pace.{Pace}
 
 -- a call from this state: all its steps but the last, which jumps back, and that one. What it shows is this list
-pub record CallReturns (program : ProgramTree) (image : Fields) (needs : Needs) (code : MachineCode)
+pub record CallReturns (program : ProgramTree) (image : Fields) (needs : Needs) (pace : Pace) (code : MachineCode)
     (site : CallSite) (s : State) (list : List Observation) : Type 0 where
   pub results : Results
   pub means : Means program (arguments_of image site s) results
@@ -27,20 +28,20 @@ pub record CallReturns (program : ProgramTree) (image : Fields) (needs : Needs) 
   -- those of the body: ECALL would be one step more
   pub body_steps : ℕ
   pub within_steps : body_steps < image.max_steps
-  pub counted : suc step_count ≡ around_steps image needs site.pointers + body_steps
-  pub at_last : end.pc ≡ site.entry + 4 * (length (function_words image needs) - 1)
+  pub counted : suc step_count ≡ around_steps image needs pace site.pointers + body_steps
+  pub at_last : end.pc ≡ site.entry + 4 * (length (function_words image needs pace) - 1)
   pub left : IsLeft image site s.regs s.bytes results end
   -- a caller of code without compressed instructions stands at a multiple of 4
   pub goes_back : s.regs 1 % 4 ≡ 0 → Step code end (goes_on (observed end None) (moved_to end (s.regs 1)))
 
 -- the function of an image can be called from where it stands
-pub record IsCallable (program : ProgramTree) (p : ProcedureTree) (image : Fields) (needs : Needs)
+pub record IsCallable (program : ProgramTree) (p : ProcedureTree) (image : Fields) (needs : Needs) (pace : Pace)
     (code : MachineCode) (site : CallSite) : Type 0 where
   -- one list for each list of arguments, whatever the rest of the state
   pub shown : List Arg → List Observation
   -- results: from every state in which it is called, whatever words it is given
   pub runs : (s : State) → IsCalled image site s
-      → CallReturns program image needs code site s (shown (arguments_of image site s))
+      → CallReturns program image needs pace code site s (shown (arguments_of image site s))
   -- equal leakage: on arguments that agree it is one list
   pub equal_leakage : (args args' : List Arg) → Agree (params_of image) args args' → shown args ≡ shown args'
   -- and what is left is one result and one list of `mut` arrays, where these are public
@@ -48,14 +49,15 @@ pub record IsCallable (program : ProgramTree) (p : ProcedureTree) (image : Field
       → Means program args results → Means program args' results'
       → AgreeInPublic (params_of image) p.result results results'
 
--- the function of each compiled procedure can be called, from wherever it stands. It zeroes the words of its frame from
--- which on the body may start in whatever the stack holds
+-- the function of each compiled procedure can be called, at either pace and from wherever it stands. It zeroes the
+-- words of its frame from which on the body may start in whatever the stack holds
 abbrev pub CallsAreLinked : Type 0
 CallsAreLinked =
     (program : ProgramTree) (before : List ProcedureTree) (p : ProcedureTree) (image : Fields) (needs : Needs)
+    (pace : Pace)
     → IsCompiled program before p image
     → StartsAnywhere program p image needs
     → IsImage image
     → (code : MachineCode) (site : CallSite)
-    → IsSite image needs code site
-    → IsCallable program p image needs code site
+    → IsSite image needs pace code site
+    → IsCallable program p image needs pace code site

@@ -10,6 +10,7 @@ use Rattle.language.specs.declared.values.Arg.TheVariants.{Word}
 use Rattle.linked_calls.specs.FunctionCode.{function_words, room_of, array_bytes}
 use Rattle.linked_calls.specs.Meant.{meant}
 use Rattle.linked_calls.specs.Stretches.{AreBytes, AreData}
+use Rattle.linked_calls.specs.declared.pace.Pace.{Pace}
 
 -- where a function's words begin, where the stack pointer is at the call, and where the i-th argument points if it is
 -- an array
@@ -56,9 +57,9 @@ LieWell image site i (slot ∷ slots) = LiesWell image site i slot slot.param.fo
 -- the function's words stand in the code, which the image's observer observes; the stack has room, and the arrays lie
 -- well.
 -- Two `mut` arrays may be one
-pub record IsSite (image : Fields) (needs : Needs) (code : MachineCode) (site : CallSite) : Type 0 where
+pub record IsSite (image : Fields) (needs : Needs) (pace : Pace) (code : MachineCode) (site : CallSite) : Type 0 where
   pub observed : code.profile ≡ image.profile
-  pub words : Stand code site.entry (function_words image needs)
+  pub words : Stand code site.entry (function_words image needs pace)
   pub stack_aligned : site.stack % 16 ≡ 0
   pub room : room_of image ≤ site.stack
   pub stack_ends : arguments_end image site < 2 ^ 32

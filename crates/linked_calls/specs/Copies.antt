@@ -12,6 +12,7 @@ use Rattle.linked_calls.specs.Does.{Data, Does, AreThere}
 use Rattle.linked_calls.specs.Meant.{meant}
 use Rattle.linked_calls.specs.Passing.{passed_in}
 use Rattle.linked_calls.specs.Stretches.{AreBytes, AreData, LiesIn}
+use Rattle.linked_calls.specs.declared.pace.Pace.{Pace}
 
 -- where the frame of a call lies, which argument it is, and where the argument points
 pub record Pointed : Type 0 where
@@ -80,11 +81,11 @@ pub record IsArrayTaken (slot : Slot) (spot : Pointed) (s t : Data) : Type 0 whe
 -- the code that takes an array does so, whether it may be changed or not
 abbrev pub ArrayIsTaken : Type 0
 ArrayIsTaken =
-    (code : MachineCode) (start : ℕ) (image : Fields) (slot : Slot) (spot : Pointed)
-    → AreThere code start (argument_code image spot.index slot FixedArray)
+    (code : MachineCode) (start : ℕ) (image : Fields) (pace : Pace) (slot : Slot) (spot : Pointed)
+    → AreThere code start (argument_code image pace spot.index slot FixedArray)
     → CanBeCopied slot spot (place_before image spot)
-    → Does code start (argument_code image spot.index slot FixedArray)
-    (taken_steps image spot.index slot spot.pointer)
+    → Does code start (argument_code image pace spot.index slot FixedArray)
+    (taken_steps image pace spot.index slot spot.pointer)
     (IsCopying spot.frame (place_before image spot) (array_bytes slot) spot.pointer (slot_of slot spot))
     (HasArray slot spot (passed_in image spot.frame spot.index)) (IsArrayTaken slot spot)
 
@@ -97,21 +98,21 @@ pub record IsHandedBack (slot : Slot) (spot : Pointed) (s t : Data) : Type 0 whe
 -- the code that hands an array back does so
 abbrev pub ArrayIsHandedBack : Type 0
 ArrayIsHandedBack =
-    (code : MachineCode) (start : ℕ) (image : Fields) (slot : Slot) (spot : Pointed)
-    → AreThere code start (copy_out_code image spot.index slot MutableArray)
+    (code : MachineCode) (start : ℕ) (image : Fields) (pace : Pace) (slot : Slot) (spot : Pointed)
+    → AreThere code start (copy_out_code image pace spot.index slot MutableArray)
     → CanBeCopied slot spot (place_behind image spot)
-    → Does code start (copy_out_code image spot.index slot MutableArray)
-    (handed_steps image spot.index slot spot.pointer)
+    → Does code start (copy_out_code image pace spot.index slot MutableArray)
+    (handed_steps image pace spot.index slot spot.pointer)
     (IsCopying spot.frame (place_behind image spot) (array_bytes slot) (slot_of slot spot) spot.pointer)
     (HasArray slot spot (λ s. number_at s.bytes 4 (place_behind image spot))) (IsHandedBack slot spot)
 
 -- The code that copies elements, one by one or by words, for so many of them.
-pub record AreShort (kind : Kind) (count : ℕ) : Type 0 where
-  pub taken : length (copied_code (copied_in_code kind) kind count) ≤ 64
-  pub taken_by_words : length (by_words_code copied_in_code kind count) ≤ 64
-  pub handed : length (copied_code (copied_out_code kind) kind count) ≤ 64
-  pub handed_by_words : length (by_words_code copied_out_code kind count) ≤ 64
+pub record AreShort (pace : Pace) (kind : Kind) (count : ℕ) : Type 0 where
+  pub taken : length (copied_code pace (copied_in_code kind) kind count) ≤ 64
+  pub taken_by_words : length (by_words_code pace copied_in_code kind count) ≤ 64
+  pub handed : length (copied_code pace (copied_out_code kind) kind count) ≤ 64
+  pub handed_by_words : length (by_words_code pace copied_out_code kind count) ≤ 64
 
 -- a branch and a jump go over it
 abbrev pub CopiesAreShort : Type 0
-CopiesAreShort = (kind : Kind) (count : ℕ) → AreShort kind count
+CopiesAreShort = (pace : Pace) (kind : Kind) (count : ℕ) → AreShort pace kind count

@@ -5,8 +5,9 @@
 -- then those of the caller's s0 to s11 that the body writes, and at its upper end those of a0 to a7 that are needed
 -- behind the body. Arguments that no register holds stand with the caller, from the end of the room on.
 --
--- An array of elements that are smaller than a word is copied by words where its pointer is a multiple of 4, which is
--- tested when the function runs: pointers are public.
+-- At a fast pace loops do much in each round, and an array of elements that are smaller than a word is copied by words
+-- where its pointer is a multiple of 4, which is tested when the function runs: pointers are public. At a small pace
+-- loops do little in each round, and arrays go element by element.
 use Rattle.std.specs.Prelude.{ℕ, ◌+◌, ◌-◌, ◌*◌, ◌/◌, ◌%◌, ◌^◌, ◌==◌, List, [], ◌∷◌, ◌++◌, length, map}
 use Rattle.std.specs.Prelude.{max, replicate, slice_get, take, unwrap_or}
 use Rattle.std.specs.Prelude.{Bool, true, false, ◌&&◌, nat_le, nat_lt, Option, Some, None, if◌then◌else◌}
@@ -19,12 +20,15 @@ use Rattle.hepurita.specs.Blank.{Blank}
 use Rattle.hepurita.specs.Needs.{Needs}
 use Rattle.linked_calls.specs.Convention.{link_register, stack_register, saved_registers, argument_registers}
 use Rattle.linked_calls.specs.Convention.{result_register, scratch_registers, whole_blocks}
+use Rattle.linked_calls.specs.Paces.{few_elements, may_go_by_words, most_blanks, per_round, run_words}
 use Rattle.linked_calls.specs.Written.{written_of}
 use Rattle.language.specs.Operators.{width_of}
 use Rattle.rv_code.specs.declared.instructions.Instr.TheVariants.{Load, Store}
 use Rattle.rv_code.specs.declared.operations.LoadOperation.TheVariants.{Lw}
 use Rattle.rv_code.specs.declared.operations.StoreOperation.{StoreOperation}
 use Rattle.rv_code.specs.declared.operations.StoreOperation.TheVariants.{Sb, Sh, Sw}
+use Rattle.linked_calls.specs.declared.pace.Pace.{Pace}
+use Rattle.linked_calls.specs.declared.pace.Pace.TheVariants.{Fast, Small}
 
 -- Sizes.
 
@@ -104,15 +108,18 @@ down_code count = added stack_register (4096 - 4 * count) ∷ zeros_code count
 abbrev pub up_code : ℕ → List Instr
 up_code count = zeros_code count ++ added stack_register (4 * count) ∷ []
 
--- the words of a room beside its runs of 16
-abbrev pub rest_words : ℕ → ℕ
-rest_words room = room % 64 / 4
+-- how many runs a room has, and the words beside them
+abbrev pub run_count : Pace → ℕ → ℕ
+run_count pace room = room / (4 * run_words pace)
+
+abbrev pub rest_words : Pace → ℕ → ℕ
+rest_words pace room = room % (4 * run_words pace) / 4
 
 -- code for a number of words, over a room up or down to x5: once for the words beside the runs, and once for each run
-abbrev pub runs_code : (ℕ → List Instr) → ℕ → List Instr
-runs_code code room =
-    (if rest_words room == 0 then [] else code (rest_words room))
-    ++ (if room / 64 == 0 then [] else until_equal stack_register 5 (code 16))
+abbrev pub runs_code : Pace → (ℕ → List Instr) → ℕ → List Instr
+runs_code pace code room =
+    (if rest_words pace room == 0 then [] else code (rest_words pace room))
+    ++ (if run_count pace room == 0 then [] else until_equal stack_register 5 (code (run_words pace)))
 
 -- the address of an offset from x2 on
 abbrev pub address_code : ℕ → ℕ → List Instr
@@ -133,10 +140,10 @@ entry_code image =
     ++ stores_code stack_register (first_argument image) (needed_of image)
 
 -- a frame, zeroed run by run downward, so that nothing live ever lies below x2
-abbrev pub zeroed_code : ℕ → List Instr
-zeroed_code room =
+abbrev pub zeroed_code : Pace → ℕ → List Instr
+zeroed_code pace room =
     if room == 0 then [] else
-    constant_code 5 room ++ Register Sub 5 stack_register 5 ∷ runs_code down_code room
+    constant_code 5 room ++ Register Sub 5 stack_register 5 ∷ runs_code pace down_code room
 
 -- one store zeroes the word at an offset, in a frame of so many bytes
 abbrev pub fits_frame : ℕ → ℕ → Bool
@@ -147,8 +154,8 @@ all_fit room [] = true
 all_fit room (offset ∷ offsets) = fits_frame room offset && all_fit room offsets
 
 -- so few words that they are zeroed one by one
-abbrev pub are_few : ℕ → List ℕ → Bool
-are_few room offsets = nat_le (length offsets) 32 && all_fit room offsets
+abbrev pub are_few : Pace → ℕ → List ℕ → Bool
+are_few pace room offsets = nat_le (length offsets) (most_blanks pace) && all_fit room offsets
 
 -- x2 goes down by a room
 abbrev pub lowered_code : ℕ → List Instr
@@ -169,9 +176,10 @@ abbrev pub partly_code : ℕ → List ℕ → List Instr
 partly_code room offsets = if room == 0 then [] else lowered_code room ++ blanks_code offsets
 
 -- a frame in which the words that have to be are zeros
-abbrev pub frame_code : ℕ → Blank → List Instr
-frame_code room None = zeroed_code room
-frame_code room (Some offsets) = if are_few room offsets then partly_code room offsets else zeroed_code room
+abbrev pub frame_code : Pace → ℕ → Blank → List Instr
+frame_code pace room None = zeroed_code pace room
+frame_code pace room (Some offsets) =
+    if are_few pace room offsets then partly_code room offsets else zeroed_code pace room
 
 -- what a raw word means by its kind: a bool is whether it is not 0, a number its low bits
 abbrev pub meant_code : ℕ → Kind → List Instr
@@ -210,17 +218,10 @@ pointer_out_code image i = load_code 5 (argument_offset image i)
 abbrev pub places_code : List Instr → Slot → List Instr
 places_code pointer slot = pointer ++ address_code 6 slot.offset
 
--- how many elements a round of a loop copies: eight words, or four elements that are smaller, which mostly go so only
--- where their pointer is no multiple of 4
-abbrev pub per_round : Kind → ℕ
-per_round Boolean = 4
-per_round Uint8 = 4
-per_round Uint16 = 4
-per_round Uint32 = 8
-
--- as many elements more are done
-abbrev pub next_code : Kind → List Instr
-next_code kind = added 5 (per_round kind * element_bytes kind) ∷ added 6 (per_round kind * element_bytes kind) ∷ []
+-- as many elements more are done as a round copies
+abbrev pub next_code : Pace → Kind → List Instr
+next_code pace kind =
+    added 5 (per_round pace kind * element_bytes kind) ∷ added 6 (per_round pace kind * element_bytes kind) ∷ []
 
 -- a bool element as 0 or 1; numbers have their width
 abbrev pub element_meant_code : Kind → List Instr
@@ -250,33 +251,45 @@ abbrev pub elements_code : (ℕ → List Instr) → ℕ → ℕ → ℕ → List
 elements_code code bytes offset zero = []
 elements_code code bytes offset (suc count) = code offset ++ elements_code code bytes (offset + bytes) count
 
+-- so many bytes behind x5 into x7, by a number of its own
+abbrev pub far_code : ℕ → List Instr
+far_code bytes = constant_code 7 bytes ++ Register Add 7 7 5 ∷ []
+
+-- where a loop ends, which is so many bytes behind x5, into x7; at a small pace in one instruction, where the number
+-- fits it
+abbrev pub bound_code : Pace → ℕ → List Instr
+bound_code Fast bytes = far_code bytes
+bound_code Small bytes = if nat_lt bytes 2048 then Immediate Addi 7 5 bytes ∷ [] else far_code bytes
+
 -- some of them by each round of a loop, up to x7, and those that are left behind it
-abbrev pub rounds_code : (ℕ → List Instr) → Kind → ℕ → List Instr
-rounds_code code kind count =
+abbrev pub rounds_code : Pace → (ℕ → List Instr) → Kind → ℕ → List Instr
+rounds_code pace code kind count =
     let bytes = element_bytes kind in
-    let round = per_round kind in
-    constant_code 7 (bytes * (round * (count / round))) ++ Register Add 7 7 5
-    ∷ until_equal 5 7 (elements_code code bytes 0 round ++ next_code kind) ++ elements_code code bytes 0 (count % round)
+    let round = per_round pace kind in
+    bound_code pace (bytes * (round * (count / round)))
+    ++ until_equal 5 7 (elements_code code bytes 0 round ++ next_code pace kind)
+    ++ elements_code code bytes 0 (count % round)
 
 -- so many elements: by straight code if they are few
-abbrev pub copied_code : (ℕ → List Instr) → Kind → ℕ → List Instr
-copied_code code kind count =
-    if nat_lt count 16 then elements_code code (element_bytes kind) 0 count else rounds_code code kind count
+abbrev pub copied_code : Pace → (ℕ → List Instr) → Kind → ℕ → List Instr
+copied_code pace code kind count =
+    if nat_lt count (few_elements pace) then elements_code code (element_bytes kind) 0 count
+    else rounds_code pace code kind count
 
 -- how many of them lie behind where x5 and x6 are then
-abbrev pub passed_count : Kind → ℕ → ℕ
-passed_count kind count = if nat_lt count 16 then count else count % per_round kind
+abbrev pub passed_count : Pace → Kind → ℕ → ℕ
+passed_count pace kind count = if nat_lt count (few_elements pace) then count else count % per_round pace kind
 
 -- how many elements a word has
 abbrev pub per_word : Kind → ℕ
 per_word kind = 4 / element_bytes kind
 
 -- so many elements word by word, and those that are no whole word
-abbrev pub by_words_code : (Kind → ℕ → List Instr) → Kind → ℕ → List Instr
-by_words_code code kind count =
+abbrev pub by_words_code : Pace → (Kind → ℕ → List Instr) → Kind → ℕ → List Instr
+by_words_code pace code kind count =
     let words = count / per_word kind in
-    copied_code (code Uint32) Uint32 words
-    ++ elements_code (code kind) (element_bytes kind) (4 * passed_count Uint32 words) (count % per_word kind)
+    copied_code pace (code Uint32) Uint32 words
+    ++ elements_code (code kind) (element_bytes kind) (4 * passed_count pace Uint32 words) (count % per_word kind)
 
 -- one code where the pointer in x5 is no multiple of 4, and another where it is
 abbrev pub by_alignment_code : List Instr → List Instr → List Instr
@@ -298,22 +311,22 @@ goes_out_by_words Uint16 = true
 goes_out_by_words Uint32 = false
 
 -- all elements of an array: element by element, or as the pointer is where they go by words and are not too few
-abbrev pub array_code : (Kind → ℕ → List Instr) → Bool → Kind → ℕ → List Instr
-array_code code by_words kind count =
-    if by_words && nat_le 4 count
-    then by_alignment_code (copied_code (code kind) kind count) (by_words_code code kind count)
-    else copied_code (code kind) kind count
+abbrev pub array_code : Pace → (Kind → ℕ → List Instr) → Bool → Kind → ℕ → List Instr
+array_code pace code by_words kind count =
+    if by_words && may_go_by_words pace count
+    then by_alignment_code (copied_code pace (code kind) kind count) (by_words_code pace code kind count)
+    else copied_code pace (code kind) kind count
 
 -- an array that the argument points to into its slot
-abbrev pub copy_in_code : Fields → ℕ → Slot → List Instr
-copy_in_code image i slot =
+abbrev pub copy_in_code : Fields → Pace → ℕ → Slot → List Instr
+copy_in_code image pace i slot =
     places_code (pointer_in_code image i) slot
-    ++ array_code copied_in_code (goes_in_by_words slot.param.kind) slot.param.kind slot.param.length
+    ++ array_code pace copied_in_code (goes_in_by_words slot.param.kind) slot.param.kind slot.param.length
 
-abbrev pub argument_code : Fields → ℕ → Slot → Form → List Instr
-argument_code image i slot SingleWord = word_code image i slot
-argument_code image i slot FixedArray = copy_in_code image i slot
-argument_code image i slot MutableArray = copy_in_code image i slot
+abbrev pub argument_code : Fields → Pace → ℕ → Slot → Form → List Instr
+argument_code image pace i slot SingleWord = word_code image i slot
+argument_code image pace i slot FixedArray = copy_in_code image pace i slot
+argument_code image pace i slot MutableArray = copy_in_code image pace i slot
 
 -- any numbers of the kind may stand in the slot of an array of numbers that may be changed
 abbrev pub is_open : Form → Kind → Bool
@@ -329,19 +342,20 @@ abbrev pub is_skipped : List Bool → ℕ → Slot → Bool
 is_skipped spared i slot = unwrap_or (slice_get spared i) false && is_open slot.param.form slot.param.kind
 
 -- an argument into its slot, where it has to stand there
-abbrev pub needed_code : Fields → List Bool → ℕ → Slot → List Instr
-needed_code image spared i slot =
-    if is_skipped spared i slot then [] else argument_code image i slot slot.param.form
+abbrev pub needed_code : Fields → Pace → List Bool → ℕ → Slot → List Instr
+needed_code image pace spared i slot =
+    if is_skipped spared i slot then [] else argument_code image pace i slot slot.param.form
 
 -- all arguments from the i-th on
-abbrev pub arguments_code : Fields → List Bool → ℕ → List Slot → List Instr
-arguments_code image spared i [] = []
-arguments_code image spared i (slot ∷ slots) =
-    needed_code image spared i slot ++ arguments_code image spared (i + 1) slots
+abbrev pub arguments_code : Fields → Pace → List Bool → ℕ → List Slot → List Instr
+arguments_code image pace spared i [] = []
+arguments_code image pace spared i (slot ∷ slots) =
+    needed_code image pace spared i slot ++ arguments_code image pace spared (i + 1) slots
 
-abbrev pub enter_code : Fields → Needs → List Instr
-enter_code image needs =
-    entry_code image ++ frame_code (frame_room image) needs.blank ++ arguments_code image needs.spared 0 image.slots
+abbrev pub enter_code : Fields → Needs → Pace → List Instr
+enter_code image needs pace =
+    entry_code image ++ frame_code pace (frame_room image) needs.blank
+    ++ arguments_code image pace needs.spared 0 image.slots
 
 -- The way back.
 
@@ -351,17 +365,18 @@ result_code None = Immediate Addi result_register 0 0 ∷ []
 result_code (Some slot) = load_code result_register slot.offset
 
 -- an array from its slot to where the argument points
-abbrev pub copy_out_code : Fields → ℕ → Slot → Form → List Instr
-copy_out_code image i slot SingleWord = []
-copy_out_code image i slot FixedArray = []
-copy_out_code image i slot MutableArray =
+abbrev pub copy_out_code : Fields → Pace → ℕ → Slot → Form → List Instr
+copy_out_code image pace i slot SingleWord = []
+copy_out_code image pace i slot FixedArray = []
+copy_out_code image pace i slot MutableArray =
     places_code (pointer_out_code image i) slot
-    ++ array_code copied_out_code (goes_out_by_words slot.param.kind) slot.param.kind slot.param.length
+    ++ array_code pace copied_out_code (goes_out_by_words slot.param.kind) slot.param.kind slot.param.length
 
 -- all arrays that may be changed, from the i-th argument on
-abbrev pub results_code : Fields → ℕ → List Slot → List Instr
-results_code image i [] = []
-results_code image i (slot ∷ slots) = copy_out_code image i slot slot.param.form ++ results_code image (i + 1) slots
+abbrev pub results_code : Fields → Pace → ℕ → List Slot → List Instr
+results_code image pace i [] = []
+results_code image pace i (slot ∷ slots) =
+    copy_out_code image pace i slot slot.param.form ++ results_code image pace (i + 1) slots
 
 -- the caller's registers that are kept, and its x2 in x5
 abbrev pub restore_code : Fields → List Instr
@@ -369,20 +384,20 @@ restore_code image =
     address_code 5 (frame_room image) ++ loads_code 5 0 (kept_of image) ++ added 5 (above_frame image) ∷ []
 
 -- all the room, zeroed run by run upward
-abbrev pub wipe_code : ℕ → List Instr
-wipe_code room = runs_code up_code room
+abbrev pub wipe_code : Pace → ℕ → List Instr
+wipe_code pace room = runs_code pace up_code room
 
 -- registers become 0
 abbrev pub clear_registers_code : List ℕ → List Instr
 clear_registers_code rs = map (λ r. Immediate Addi r 0 0) rs
 
-abbrev pub leave_code : Fields → List Instr
-leave_code image =
-    result_code image.returned ++ results_code image 0 image.slots ++ restore_code image
-    ++ wipe_code (room_of image) ++ clear_registers_code scratch_registers ++ JumpRegister 0 link_register 0 ∷ []
+abbrev pub leave_code : Fields → Pace → List Instr
+leave_code image pace =
+    result_code image.returned ++ results_code image pace 0 image.slots ++ restore_code image
+    ++ wipe_code pace (room_of image) ++ clear_registers_code scratch_registers ++ JumpRegister 0 link_register 0 ∷ []
 
 -- The function.
 
-unfoldable pub function_words : Fields → Needs → List ℕ
-function_words image needs =
-    map word_of (enter_code image needs) ++ body_words image.words ++ map word_of (leave_code image)
+unfoldable pub function_words : Fields → Needs → Pace → List ℕ
+function_words image needs pace =
+    map word_of (enter_code image needs pace) ++ body_words image.words ++ map word_of (leave_code image pace)

@@ -1,8 +1,8 @@
 -- An argument that is a word, of which what it means is put into its slot before the body, and the result behind it.
 use Rattle.std.specs.Prelude.{◌≡◌, ◌≢◌, ℕ, ◌+◌, ◌%◌, ◌^◌, ◌<◌, ◌≤◌, length, Option, Some, None, is_some, true}
-use Rattle.linked_calls.specs.Below.{MachineCode, Event, Fields, ResultSlot, SingleWord, Slot, with_argument, word_in}
+use Rattle.linked_calls.specs.Below.{MachineCode, Event, Fields, ResultSlot, Slot, with_argument, word_in}
 use Rattle.linked_calls.specs.Convention.{result_register}
-use Rattle.linked_calls.specs.FunctionCode.{argument_code, argument_register, result_code, stacked_offset}
+use Rattle.linked_calls.specs.FunctionCode.{argument_register, result_code, stacked_offset, word_code}
 use Rattle.language.specs.declared.values.Arg.TheVariants.{Word}
 use Rattle.linked_calls.specs.Does.{Data, Does, AreThere}
 use Rattle.linked_calls.specs.Meant.{meant}
@@ -45,9 +45,9 @@ IsPutting place target sp (Some (event.Mul a b)) = ⊥
 abbrev pub WordIsTaken : Type 0
 WordIsTaken =
     (code : MachineCode) (start : ℕ) (image : Fields) (slot : Slot) (frame i : ℕ)
-    → AreThere code start (argument_code image i slot SingleWord)
+    → AreThere code start (word_code image i slot)
     → CanBePut image slot frame i
-    → Does code start (argument_code image i slot SingleWord) (length (argument_code image i slot SingleWord))
+    → Does code start (word_code image i slot) (length (word_code image i slot))
     (IsPutting (frame + stacked_offset image i) (frame + slot.offset)) (HasWordArgument image slot frame i)
     (IsArgumentPut image slot frame i)
 

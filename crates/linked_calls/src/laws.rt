@@ -10,25 +10,26 @@ ghost use Rattle.linked_calls.specs.FunctionCode.{function_words};
 ghost use Rattle.linked_calls.specs.Sections.{code_of, enter_sections, leave_sections};
 ghost use Rattle.linked_calls.specs.Words.{ResultIsHandedBack, WordIsTaken};
 ghost use Rattle.linked_calls.specs.Zeros.{FrameIsZeroed, RoomIsWiped};
+ghost use Rattle.linked_calls.specs.declared.pace.Pace.{Pace};
 
-/// The function of every compiled procedure can be called from wherever its words stand in code. From each state in
-/// which it is called by the standard calling convention it goes back to its caller, in an exact number of steps around
-/// those of its body. It leaves what the source means on the arguments: the result in a0 and the elements of each `mut`
-/// array where its argument points. The registers that a caller may rely on are as they were, the others and the room
-/// of the call are 0, and nothing else has changed. Its accesses stay in the room, the arguments and the arrays, and
-/// none of the stack lies below the stack pointer as it is then. What the call shows is one list for arguments that
-/// agree where they are public, whatever the secret ones are.
+/// The function of every compiled procedure, at either pace, can be called from wherever its words stand in code. From
+/// each state in which it is called by the standard calling convention it goes back to its caller, in an exact number
+/// of steps around those of its body. It leaves what the source means on the arguments: the result in a0 and the
+/// elements of each `mut` array where its argument points. The registers that a caller may rely on are as they were,
+/// the others and the room of the call are 0, and nothing else has changed. Its accesses stay in the room, the
+/// arguments and the arrays, and none of the stack lies below the stack pointer as it is then. What the call shows is
+/// one list for arguments that agree where they are public, whatever the secret ones are.
 pub fn calls_are_linked()
     ensures { CallsAreLinked }
 {}
 
 /// The words of the sections' instructions, with the body's between them, are those of the function.
 pub fn sections_are_the_function()
-    ensures { (image : Fields) (needs : Needs)
-        → map word_of (code_of image (enter_sections image needs))
+    ensures { (image : Fields) (needs : Needs) (pace : Pace)
+        → map word_of (code_of image pace (enter_sections image needs pace))
         ++ body_words image.words
-        ++ map word_of (code_of image (leave_sections image))
-        ≡ function_words image needs }
+        ++ map word_of (code_of image pace (leave_sections image))
+        ≡ function_words image needs pace }
 {}
 
 /// The code that zeroes a frame whole before the body makes an exact number of steps, stores in the frame alone, never
@@ -45,7 +46,7 @@ pub fn word_is_taken()
 {}
 
 /// The code that takes an argument that points to an array puts what its elements mean into its slot. What it shows is
-/// one list, and its number of steps one number, which frame, index and pointer decide.
+/// one list, and its number of steps one number, which frame, index, pace and pointer decide.
 pub fn array_is_taken()
     ensures { ArrayIsTaken }
 {}

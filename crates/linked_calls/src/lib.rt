@@ -3,6 +3,7 @@
 #![tactic(auto)]
 
 mod laws;
+mod pace;
 mod section;
 
 pub use laws::{
@@ -10,4 +11,5 @@ pub use laws::{
     registers_are_cleared, result_is_handed_back, room_is_wiped, sections_are_the_function,
     word_is_taken,
 };
+pub use pace::Pace;
 pub use section::Section;

@@ -5,11 +5,14 @@ use Rattle.functions.specs.declared.function_code.copying.Way.{Way}
 use Rattle.functions.specs.declared.function_code.copying.Way.TheVariants.{In, Out}
 use Rattle.functions.specs.function_code.private.Ways.{element_code}
 use Rattle.linked_calls.proofs.CopyLengths.{copies_are_short}
+use Rattle.linked_calls.specs.declared.pace.Pace.{Pace}
 
-pub alone_short : (way : Way) (kind : Kind) (count : ℕ) → length (copied_code (element_code way kind) kind count) ≤ 64
-alone_short In kind count = (copies_are_short kind count).taken
-alone_short Out kind count = (copies_are_short kind count).handed
+pub alone_short : (pace : Pace) (way : Way) (kind : Kind) (count : ℕ)
+    → length (copied_code pace (element_code way kind) kind count) ≤ 64
+alone_short pace In kind count = (copies_are_short pace kind count).taken
+alone_short pace Out kind count = (copies_are_short pace kind count).handed
 
-pub words_short : (way : Way) (kind : Kind) (count : ℕ) → length (by_words_code (element_code way) kind count) ≤ 64
-words_short In kind count = (copies_are_short kind count).taken_by_words
-words_short Out kind count = (copies_are_short kind count).handed_by_words
+pub words_short : (pace : Pace) (way : Way) (kind : Kind) (count : ℕ)
+    → length (by_words_code pace (element_code way) kind count) ≤ 64
+words_short pace In kind count = (copies_are_short pace kind count).taken_by_words
+words_short pace Out kind count = (copies_are_short pace kind count).handed_by_words

@@ -4,7 +4,7 @@ use Rattle.std.proofs.lemmas.Option.{same_Some}
 use Rattle.functions.specs.Below.{accepts, exported, Fields, fine, IsCompilation, Judges, Optimisation, Place}
 use Rattle.functions.specs.Below.{ProcedureTree, Profile, ProgramTree, readable, Refusal}
 use Rattle.functions.specs.function_text.Functions.{FunctionParts, IsFunctionOf, HasTakenName, IsFaultOf}
-use Rattle.functions.specs.function_text.Functions.{IsUnlessMemory, written_parameter}
+use Rattle.functions.specs.function_text.Functions.{IsUnlessMemory, pace_of, written_parameter}
 use Rattle.functions.specs.function_text.Names.{is_taken_function}
 use Rattle.functions.specs.declared.function_text.fault.FunctionFault.{FunctionFault}
 use Rattle.functions.specs.declared.function_text.fault.FunctionFault.TheVariants.{Text, Name}
@@ -12,6 +12,7 @@ use Rattle.functions.specs.function_text.private.OfExport.{IsOfExport, NameIsTak
 use Rattle.hepurita.specs.Needs.{Needs}
 use Rattle.hepurita.specs.Exact.{frame_needs_for}
 use Rattle.hepurita.specs.Linked.{StartsAnywhere}
+use Rattle.linked_calls.specs.declared.pace.Pace.{Pace}
 
 module _ (optimisation : Optimisation) (profile : Profile) (prefix source : List ℕ) (program : ProgramTree)
     (before : List ProcedureTree) (export : ProcedureTree) where
@@ -48,9 +49,9 @@ module _ (optimisation : Optimisation) (profile : Profile) (prefix source : List
       }
 
       -- it is free
-      pub made : (parts : FunctionParts) → IsOfExport name found image needs parts
-          → IsFunctionOf optimisation profile prefix source parts
-      made parts of = record {
+      pub made : (pace : Pace) → pace ≡ pace_of optimisation → (parts : FunctionParts)
+          → IsOfExport name found image needs pace parts → IsFunctionOf optimisation profile prefix source parts
+      made pace is_pace parts of = record {
         program = program;
         before = before;
         export = export;
@@ -59,6 +60,7 @@ module _ (optimisation : Optimisation) (profile : Profile) (prefix source : List
             subst (λ (i : Fields). StartsAnywhere program export i parts.needs) (sym of.image)
             (subst (StartsAnywhere program export image) (sym of.needs_are) starts);
         needs = of.needs_are ∙ needs_is;
+        pace = of.pace_is ∙ is_pace;
         name = of.named ∙ made_of;
         free = subst (λ (n : List ℕ). is_taken_function n ≡ false) made_of of.free;
         parameters = of.parameters

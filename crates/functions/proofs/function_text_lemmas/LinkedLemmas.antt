@@ -8,7 +8,7 @@ use Rattle.functions.specs.Below.{CallsAreLinked, room_of}
 
 pub functions_are_linked : CallsAreLinked → FunctionsAreLinked
 functions_are_linked calls optimisation profile prefix source parts of code site is =
-    calls of.program of.before of.export parts.image parts.needs of.compilation.compiled of.started
+    calls of.program of.before of.export parts.image parts.needs parts.pace of.compilation.compiled of.started
     of.compilation.allowed code site is
 
 pub headers_state_stacks : HeadersStateStacks

@@ -12,13 +12,15 @@ use Rattle.functions.specs.function_text.Texts.{AreTextsOf}
 use Rattle.functions.proofs.function_text_lemmas.Below.{one_export, one_image}
 use Rattle.hepurita.specs.Needs.{Needs}
 use Rattle.hepurita.specs.Exact.{frame_needs_for}
+use Rattle.linked_calls.specs.declared.pace.Pace.{Pace}
 use Rattle.syntax.specs.Reading.{OneAnswer}
 
 same_parts : (name name' : List ℕ) (parameters parameters' : List Named) (image image' : Fields) (needs needs' : Needs)
-    → name ≡ name' → parameters ≡ parameters' → image ≡ image' → needs ≡ needs'
-    → ◌≡◌ {A = FunctionParts} (record { name = name; parameters = parameters; image = image; needs = needs })
-    (record { name = name'; parameters = parameters'; image = image'; needs = needs' })
-same_parts name name' parameters parameters' image image' needs needs' names params images all_needs = cc
+    (pace pace' : Pace) → name ≡ name' → parameters ≡ parameters' → image ≡ image' → needs ≡ needs' → pace ≡ pace'
+    → ◌≡◌ {A = FunctionParts}
+    (record { name = name; parameters = parameters; image = image; needs = needs; pace = pace })
+    (record { name = name'; parameters = parameters'; image = image'; needs = needs'; pace = pace' })
+same_parts name name' parameters parameters' image image' needs needs' pace pace' names params images all_needs paces = cc
 
 pub one_function : OneAnswer → (optimisation : Optimisation) (profile : Profile) (prefix source : List ℕ)
     (one other : FunctionParts)
@@ -27,13 +29,15 @@ pub one_function : OneAnswer → (optimisation : Optimisation) (profile : Profil
 one_function answer optimisation profile prefix source one other a b =
     let same = one_export profile answer source a.program b.program a.before b.before a.export b.export
     a.compilation.judged b.compilation.judged in
-    same_parts one.name other.name one.parameters other.parameters one.image other.image one.needs other.needs
+    same_parts one.name other.name one.parameters other.parameters one.image other.image one.needs other.needs one.pace
+    other.pace
     (a.name ∙ ap (λ (p : ProcedureTree). prefix ++ p.name) same.2 ∙ sym b.name)
     (a.parameters ∙ ap (λ (p : ProcedureTree). map (written_parameter (prefix ++ p.name)) p.parameters) same.2
     ∙ sym b.parameters)
     (one_image answer optimisation profile source a.program b.program a.before b.before a.export b.export one.image
     other.image a.compilation b.compilation)
     (a.needs ∙ ap₂ (frame_needs_for optimisation profile) same.1 same.2 ∙ sym b.needs)
+    (a.pace ∙ sym b.pace)
 
 -- Texts.
 

@@ -17,6 +17,7 @@ use Rattle.linked_calls.specs.declared.section.Section.TheVariants.{CallersStack
 use Rattle.functions.specs.declared.function_text.notation.Notation.{Notation}
 use Rattle.functions.specs.declared.function_text.notation.Notation.TheVariants.{Mnemonics, Numbers}
 use Rattle.functions.specs.function_text.Functions.{FunctionParts}
+use Rattle.linked_calls.specs.declared.pace.Pace.{Pace}
 
 -- Words. The position of a word is how many bytes stand before it in the function, counted as the machine counts
 -- addresses.
@@ -142,7 +143,7 @@ code_lines notation f section at (instruction ∷ code) =
 
 abbrev pub section_lines : Notation → FunctionParts → ℕ → Section → List ℕ
 section_lines notation f at section =
-    title_line (section_title section) ++ code_lines notation f section at (section_code f.image section)
+    title_line (section_title section) ++ code_lines notation f section at (section_code f.image f.pace section)
     ++ end_line f.image section
 
 -- sections from a position on
@@ -150,13 +151,13 @@ abbrev pub sections_lines : Notation → FunctionParts → ℕ → List Section 
 sections_lines notation f at [] = []
 sections_lines notation f at (section ∷ sections) =
     section_lines notation f at section
-    ++ sections_lines notation f (behind at (section_code f.image section)) sections
+    ++ sections_lines notation f (behind at (section_code f.image f.pace section)) sections
 
 -- the position behind sections that begin at one
-abbrev pub behind_sections : Fields → ℕ → List Section → ℕ
-behind_sections image at [] = at
-behind_sections image at (section ∷ sections) =
-    behind_sections image (behind at (section_code image section)) sections
+abbrev pub behind_sections : Fields → Pace → ℕ → List Section → ℕ
+behind_sections image pace at [] = at
+behind_sections image pace at (section ∷ sections) =
+    behind_sections image pace (behind at (section_code image pace section)) sections
 
 -- The body, whose words are the image's.
 
@@ -183,7 +184,7 @@ profile_text P2 = codes "2"
 -- how large the function is, and for which observer
 abbrev pub sizes_text : FunctionParts → List ℕ
 sizes_text f =
-    decimal (length (function_words f.image f.needs)) ++ codes " words, " ++ decimal (room_of f.image)
+    decimal (length (function_words f.image f.needs f.pace)) ++ codes " words, " ++ decimal (room_of f.image)
     ++ codes " bytes of stack, profile " ++ profile_text f.image.profile
 
 abbrev pub first_line : FunctionParts → List ℕ
@@ -211,14 +212,14 @@ tail_lines f = codes "    .cfi_endproc\n    .size " ++ f.name ++ codes ", . - " 
 
 -- where the body begins, and where what stands behind it does
 abbrev pub body_start : FunctionParts → ℕ
-body_start f = behind_sections f.image 0 (enter_sections f.image f.needs)
+body_start f = behind_sections f.image f.pace 0 (enter_sections f.image f.needs f.pace)
 
 abbrev pub exit_start : FunctionParts → ℕ
 exit_start f = behind (body_start f) (body_words f.image.words)
 
 -- the sections before the body
 abbrev pub entry_lines : Notation → FunctionParts → List ℕ
-entry_lines notation f = sections_lines notation f 0 (enter_sections f.image f.needs)
+entry_lines notation f = sections_lines notation f 0 (enter_sections f.image f.needs f.pace)
 
 -- and those behind it
 abbrev pub exit_lines : Notation → FunctionParts → List ℕ

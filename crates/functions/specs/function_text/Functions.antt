@@ -12,7 +12,10 @@ use Rattle.hepurita.specs.Exact.{frame_needs_for}
 use Rattle.hepurita.specs.Linked.{StartsAnywhere}
 use Rattle.hepurita.specs.Needs.{Needs, needs_as}
 use Rattle.hepurita.specs.Told.{IsRefusalOf}
+use Rattle.hepurita.specs.declared.optimised.Optimisation.TheVariants as codes_made
 use Rattle.language.specs.declared.signature.Param.{Param}
+use Rattle.linked_calls.specs.declared.pace.Pace.{Pace}
+use Rattle.linked_calls.specs.declared.pace.Pace.TheVariants as paces
 
 -- a parameter under the name that is written for it
 pub record Named : Type 0 where
@@ -24,15 +27,28 @@ pub record FunctionParts : Type 0 where
   pub name : List ℕ
   pub parameters : List Named
   pub image : Fields
-  -- and what the body needs of its frame where it begins
+  -- what the body needs of its frame where it begins, and the pace of the code around it
   pub needs : Needs
+  pub pace : Pace
 
 abbrev pub named : NamedParam → Named
 named p = record { name = string_bytes p.name; param = p.param }
 
 abbrev pub parts_of : Function → FunctionParts
 parts_of f =
-    record { name = f.name; parameters = map named f.parameters.items; image = f.image; needs = needs_as f.needs }
+    record {
+      name = f.name;
+      parameters = map named f.parameters.items;
+      image = f.image;
+      needs = needs_as f.needs;
+      pace = f.pace;
+    }
+
+-- code of few words is made for few words around its body too
+abbrev pub pace_of : Optimisation → Pace
+pace_of codes_made.Off = paces.Fast
+pace_of codes_made.On = paces.Fast
+pace_of codes_made.Small = paces.Small
 
 -- a parameter of the source, in a function of this name
 abbrev pub written_parameter : List ℕ → ParameterTree → Named
@@ -48,6 +64,7 @@ pub record IsFunctionOf (optimisation : Optimisation) (profile : Profile) (prefi
   pub compilation : IsCompilation optimisation profile source program before export parts.image
   pub started : StartsAnywhere program export parts.image parts.needs
   pub needs : parts.needs ≡ frame_needs_for optimisation profile before export
+  pub pace : parts.pace ≡ pace_of optimisation
   pub name : parts.name ≡ prefix ++ export.name
   pub free : is_taken_function (prefix ++ export.name) ≡ false
   pub parameters : parts.parameters ≡ map (written_parameter (prefix ++ export.name)) export.parameters

@@ -3,24 +3,26 @@
 
 ghost use Rattle.std.specs.Prelude.{◌≡◌, ◌≤◌, ◌<◌, ◌++◌, length, OnOk};
 ghost use Rattle.functions.specs.Below.{array_code, by_alignment_code, by_words_code, copy_in_code, copy_out_code};
-ghost use Rattle.functions.specs.Below.{MutableArray, passed_count, pointer_in_code, pointer_out_code, Uint32};
+ghost use Rattle.functions.specs.Below.{may_go_by_words, MutableArray, passed_count, pointer_in_code};
+ghost use Rattle.functions.specs.Below.{pointer_out_code, Uint32};
 ghost use Rattle.functions.specs.function_code.private.Ways.{element_code, goes_by_words};
 ghost use Rattle.functions.specs.function_code.Above.{IsAbove};
 
-use crate::function_code::copying::{MANY, Way, copied, elements, left};
+use crate::function_code::copying::{Way, copied, elements, few_elements, left};
 use crate::function_code::pieces::address;
 use crate::function_code::registers;
-use crate::function_code::room::{IN_REGISTERS, argument_offset, stacked_offset};
+use crate::function_code::room::{Around, IN_REGISTERS, argument_offset, stacked_offset};
 use codegen::expression_code::emit::load;
 use codegen::image_fields::{ImageFields, Slot};
 use language::Kind;
+use linked_calls::Pace;
 use rv_code::{BranchOffset, BranchTest, Immediate12, ImmediateOperation, Instr, JumpOffset, Reg};
 use std::alloc::{AllocError, Global};
 
 /// The bytes of a word.
 const WORD: u32 = 4;
 
-/// From how many elements on they may go by words.
+/// From how many elements on they may go by words at a fast pace.
 const FEW: u32 = 4;
 
 /// An argument that points to an array into x5, before the body.
@@ -72,15 +74,25 @@ fn goes_by_words(way: Way, kind: Kind) -> bool
     }
 }
 
+/// Whether so many elements that are smaller than a word may go by words, which takes code for both ways.
+fn may_go_by_words(pace: Pace, count: u32) -> bool
+    ensures { result ≡ may_go_by_words pace count }
+{
+    match pace {
+        Pace::Fast => FEW <= count,
+        Pace::Small => false,
+    }
+}
+
 /// How many of so many words lie behind where x5 and x6 are when all are copied.
-fn passed_count(count: u32) -> u32
-    ensures passed { result ≡ passed_count Uint32 count }
+fn passed_count(pace: Pace, count: u32) -> u32
+    ensures passed { result ≡ passed_count pace Uint32 count }
     ensures few { result < 16 }
 {
-    if count < MANY {
+    if count < few_elements(pace) {
         count
     } else {
-        left(Kind::Uint32, count)
+        left(pace, Kind::Uint32, count)
     }
 }
 
@@ -88,21 +100,22 @@ fn passed_count(count: u32) -> u32
 fn by_words(
     alloc: Global,
     code: &mut Vec<Instr>,
+    pace: Pace,
     way: Way,
     kind: Kind,
     count: u32,
 ) -> Result<(), AllocError>
     requires { count < 65536 }
-    ensures { OnOk result (code.new.items ≡ code.old.items ++ by_words_code (element_code way) kind count) }
+    ensures { OnOk result (code.new.items ≡ code.old.items ++ by_words_code pace (element_code way) kind count) }
 {
     let per_word = WORD / u32::from(kind.element_bytes());
     let words = count / per_word;
-    copied(alloc, code, way, Kind::Uint32, words)?;
+    copied(alloc, code, pace, way, Kind::Uint32, words)?;
     elements(
         code,
         way,
         kind,
-        WORD * passed_count(words),
+        WORD * passed_count(pace, words),
         count % per_word,
     )
 }
@@ -128,21 +141,22 @@ fn by_alignment(code: &mut Vec<Instr>, alone: &[Instr], words: &[Instr]) -> Resu
 fn array(
     alloc: Global,
     code: &mut Vec<Instr>,
+    pace: Pace,
     way: Way,
     kind: Kind,
     count: u32,
 ) -> Result<(), AllocError>
     requires { count < 65536 }
     ensures { OnOk result (code.new.items
-        ≡ code.old.items ++ array_code (element_code way) (goes_by_words way kind) kind count) }
+        ≡ code.old.items ++ array_code pace (element_code way) (goes_by_words way kind) kind count) }
 {
-    if !goes_by_words(way, kind) || count < FEW {
-        return copied(alloc, code, way, kind, count);
+    if !goes_by_words(way, kind) || !may_go_by_words(pace, count) {
+        return copied(alloc, code, pace, way, kind, count);
     }
     let mut alone = Vec::new(alloc);
-    copied(alloc, &mut alone, way, kind, count)?;
+    copied(alloc, &mut alone, pace, way, kind, count)?;
     let mut words = Vec::new(alloc);
-    by_words(alloc, &mut words, way, kind, count)?;
+    by_words(alloc, &mut words, pace, way, kind, count)?;
     by_alignment(code, alone.as_slice(), words.as_slice())
 }
 
@@ -151,18 +165,19 @@ pub fn copy_in(
     alloc: Global,
     code: &mut Vec<Instr>,
     image: &ImageFields,
-    above: u32,
+    around: Around,
     index: u16,
     slot: Slot,
 ) -> Result<(), AllocError>
-    requires { IsAbove image.now above }
-    ensures { OnOk result (code.new.items ≡ code.old.items ++ copy_in_code image.now index slot) }
+    requires { IsAbove image.now around.above }
+    ensures { OnOk result (code.new.items ≡ code.old.items ++ copy_in_code image.now around.pace index slot) }
 {
-    pointer_in(code, image, above, index)?;
+    pointer_in(code, image, around.above, index)?;
     address(code, Reg::X6, slot.offset)?;
     array(
         alloc,
         code,
+        around.pace,
         Way::In,
         slot.param.kind,
         u32::from(slot.param.length),
@@ -174,18 +189,20 @@ pub fn copy_out(
     alloc: Global,
     code: &mut Vec<Instr>,
     image: &ImageFields,
-    above: u32,
+    around: Around,
     index: u16,
     slot: Slot,
 ) -> Result<(), AllocError>
-    requires { IsAbove image.now above }
-    ensures { OnOk result (code.new.items ≡ code.old.items ++ copy_out_code image.now index slot MutableArray) }
+    requires { IsAbove image.now around.above }
+    ensures { OnOk result (code.new.items
+        ≡ code.old.items ++ copy_out_code image.now around.pace index slot MutableArray) }
 {
-    pointer_out(code, image, above, index)?;
+    pointer_out(code, image, around.above, index)?;
     address(code, Reg::X6, slot.offset)?;
     array(
         alloc,
         code,
+        around.pace,
         Way::Out,
         slot.param.kind,
         u32::from(slot.param.length),

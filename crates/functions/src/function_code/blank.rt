@@ -1,15 +1,13 @@
 // A frame of which some words are zeroed, and no others.
 
 ghost use Rattle.std.specs.Prelude.{◌≡◌, ◌++◌, OnOk};
-ghost use Rattle.functions.specs.Below.{are_few, blank_code, fits_frame, all_fit, lowered_code};
+ghost use Rattle.functions.specs.Below.{are_few, all_fit, blank_code, fits_frame, lowered_code, most_blanks};
 
 use crate::function_code::entering::frame_base;
 use crate::function_code::pieces::added;
+use linked_calls::Pace;
 use rv_code::{Immediate12, ImmediateOperation, Instr, Reg, StoreOperation};
 use std::alloc::AllocError;
-
-/// How many words are zeroed one by one; where they are more, all of the frame is.
-const MOST: usize = 32;
 
 /// From where on an offset is no immediate.
 const FAR: u32 = 2048;
@@ -36,11 +34,21 @@ fn all_fit(room: u32, offsets: &[u32]) -> bool
     true
 }
 
-/// Whether the words at these offsets are zeroed one by one.
-pub fn are_few(room: u32, offsets: &[u32]) -> bool
-    ensures { result ≡ are_few room offsets.now }
+/// How many words are zeroed one by one; where they are more, all of the frame is.
+fn most_blanks(pace: Pace) -> usize
+    ensures { result ≡ most_blanks pace }
 {
-    offsets.len() <= MOST && all_fit(room, offsets)
+    match pace {
+        Pace::Fast => 32,
+        Pace::Small => 7,
+    }
+}
+
+/// Whether the words at these offsets are zeroed one by one.
+pub fn are_few(pace: Pace, room: u32, offsets: &[u32]) -> bool
+    ensures { result ≡ are_few pace room offsets.now }
+{
+    offsets.len() <= most_blanks(pace) && all_fit(room, offsets)
 }
 
 /// x2 goes down to the frame's base, by way of x5 where no immediate says how far.

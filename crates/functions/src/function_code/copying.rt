@@ -1,24 +1,25 @@
 // Elements between the caller's memory and the frame: few by straight code, many by a loop over some at a time.
 
 ghost use Rattle.std.specs.Prelude.{◌≡◌, ◌≤◌, ◌<◌, ◌+◌, ◌*◌, ◌/◌, ◌%◌, ◌++◌, OnOk, IfOk};
-ghost use Rattle.functions.specs.Below.{copied_code, element_bytes, element_meant_code, elements_code, load_by};
-ghost use Rattle.functions.specs.Below.{next_code, per_round, rounds_code, store_by};
+ghost use Rattle.functions.specs.Below.{bound_code, copied_code, element_bytes, element_meant_code, elements_code};
+ghost use Rattle.functions.specs.Below.{far_code, few_elements, load_by, next_code, per_round, rounds_code, store_by};
 ghost use Rattle.functions.specs.function_code.private.Ways.{element_code};
 
 use crate::function_code::pieces::{added, store_by, until_equal};
 use codegen::expression_code::emit::{constant, load_by};
 use language::Kind;
-use rv_code::{Immediate12, Instr, Reg, RegisterOperation};
+use linked_calls::Pace;
+use rv_code::{Immediate12, ImmediateOperation, Instr, Reg, RegisterOperation};
 use std::alloc::{AllocError, Global};
 
-/// The words that one round of the loop copies.
+/// The words that one round of the loop copies at a fast pace; at a small one it copies one element.
 const WORDS: u32 = 8;
 
-/// The elements that it copies where they are smaller.
+/// The elements that it copies at a fast pace where they are smaller.
 const SMALLER: u32 = 4;
 
-/// From how many elements on they are copied by a loop.
-pub const MANY: u32 = 16;
+/// From where on a number is no immediate.
+const FAR: u32 = 2048;
 
 /// Which way an array is copied.
 #[derive(Clone, Copy, Debug, PartialEq, Eq)]
@@ -29,43 +30,58 @@ pub enum Way {
     Out,
 }
 
-/// How many elements one round of the loop copies.
-fn per_round(kind: Kind) -> u32
-    ensures { result ≡ per_round kind }
+/// From how many elements on they are copied by a loop.
+pub fn few_elements(pace: Pace) -> u32
+    ensures few { result ≡ few_elements pace }
+    ensures most { result ≤ 16 }
 {
-    match kind {
-        Kind::Uint32 => WORDS,
-        Kind::Boolean | Kind::Uint8 | Kind::Uint16 => SMALLER,
+    match pace {
+        Pace::Fast => 16,
+        Pace::Small => 4,
+    }
+}
+
+/// How many elements one round of the loop copies.
+fn per_round(pace: Pace, kind: Kind) -> u32
+    ensures round { result ≡ per_round pace kind }
+    ensures few { result ≤ 8 }
+{
+    match (pace, kind) {
+        (Pace::Fast, Kind::Uint32) => WORDS,
+        (Pace::Fast, Kind::Boolean | Kind::Uint8 | Kind::Uint16) => SMALLER,
+        (Pace::Small, Kind::Boolean | Kind::Uint8 | Kind::Uint16 | Kind::Uint32) => 1,
     }
 }
 
 /// How many of so many elements whole rounds copy.
-fn in_rounds(kind: Kind, count: u32) -> u32
-    ensures rounds { result ≡ per_round kind * (count / per_round kind) }
+fn in_rounds(pace: Pace, kind: Kind, count: u32) -> u32
+    ensures rounds { result ≡ per_round pace kind * (count / per_round pace kind) }
     ensures within { result ≤ count }
 {
-    match kind {
-        Kind::Uint32 => WORDS * (count / WORDS),
-        Kind::Boolean | Kind::Uint8 | Kind::Uint16 => SMALLER * (count / SMALLER),
+    match (pace, kind) {
+        (Pace::Fast, Kind::Uint32) => WORDS * (count / WORDS),
+        (Pace::Fast, Kind::Boolean | Kind::Uint8 | Kind::Uint16) => SMALLER * (count / SMALLER),
+        (Pace::Small, Kind::Boolean | Kind::Uint8 | Kind::Uint16 | Kind::Uint32) => count,
     }
 }
 
 /// How many are left behind the rounds.
-pub fn left(kind: Kind, count: u32) -> u32
-    ensures left { result ≡ count % per_round kind }
+pub fn left(pace: Pace, kind: Kind, count: u32) -> u32
+    ensures left { result ≡ count % per_round pace kind }
     ensures few { result < 8 }
 {
-    match kind {
-        Kind::Uint32 => count % WORDS,
-        Kind::Boolean | Kind::Uint8 | Kind::Uint16 => count % SMALLER,
+    match (pace, kind) {
+        (Pace::Fast, Kind::Uint32) => count % WORDS,
+        (Pace::Fast, Kind::Boolean | Kind::Uint8 | Kind::Uint16) => count % SMALLER,
+        (Pace::Small, Kind::Boolean | Kind::Uint8 | Kind::Uint16 | Kind::Uint32) => 0,
     }
 }
 
-/// As many elements more are done.
-fn next(code: &mut Vec<Instr>, kind: Kind) -> Result<(), AllocError>
-    ensures { OnOk result (code.new.items ≡ code.old.items ++ next_code kind) }
+/// As many elements more are done as a round copies.
+fn next(code: &mut Vec<Instr>, pace: Pace, kind: Kind) -> Result<(), AllocError>
+    ensures { OnOk result (code.new.items ≡ code.old.items ++ next_code pace kind) }
 {
-    let bytes = per_round(kind) * u32::from(kind.element_bytes());
+    let bytes = per_round(pace, kind) * u32::from(kind.element_bytes());
     code.push(added(Reg::X5, bytes))?;
     code.push(added(Reg::X6, bytes))?;
     Ok(())
@@ -127,41 +143,65 @@ pub fn elements(
     Ok(())
 }
 
+/// So many bytes behind x5 into x7, by a number of its own.
+fn far(code: &mut Vec<Instr>, bytes: u32) -> Result<(), AllocError>
+    ensures { OnOk result (code.new.items ≡ code.old.items ++ far_code bytes) }
+{
+    constant(code, Reg::X7, bytes)?;
+    code.push(Instr::Register(RegisterOperation::Add, Reg::X7, Reg::X7, Reg::X5))?;
+    Ok(())
+}
+
+/// Where a loop ends, which is so many bytes behind x5, into x7.
+fn bound(code: &mut Vec<Instr>, pace: Pace, bytes: u32) -> Result<(), AllocError>
+    ensures { OnOk result (code.new.items ≡ code.old.items ++ bound_code pace bytes) }
+{
+    match pace {
+        Pace::Small if bytes < FAR => {
+            let near = Immediate12::from_bits(bytes);
+            code.push(Instr::Immediate(ImmediateOperation::Addi, Reg::X7, Reg::X5, near))?;
+            Ok(())
+        }
+        Pace::Fast | Pace::Small => far(code, bytes),
+    }
+}
+
 /// Some elements a round, up to x7, and those that are left.
 fn rounds(
     alloc: Global,
     code: &mut Vec<Instr>,
+    pace: Pace,
     way: Way,
     kind: Kind,
     count: u32,
 ) -> Result<(), AllocError>
     requires { count < 65536 }
-    ensures { OnOk result (code.new.items ≡ code.old.items ++ rounds_code (element_code way kind) kind count) }
+    ensures { OnOk result (code.new.items ≡ code.old.items ++ rounds_code pace (element_code way kind) kind count) }
 {
     let bytes = u32::from(kind.element_bytes());
-    constant(code, Reg::X7, bytes * in_rounds(kind, count))?;
-    code.push(Instr::Register(RegisterOperation::Add, Reg::X7, Reg::X7, Reg::X5))?;
+    bound(code, pace, bytes * in_rounds(pace, kind, count))?;
     let mut round = Vec::new(alloc);
-    elements(&mut round, way, kind, 0, per_round(kind))?;
-    next(&mut round, kind)?;
+    elements(&mut round, way, kind, 0, per_round(pace, kind))?;
+    next(&mut round, pace, kind)?;
     until_equal(code, Reg::X5, Reg::X7, round.as_slice())?;
-    elements(code, way, kind, 0, left(kind, count))
+    elements(code, way, kind, 0, left(pace, kind, count))
 }
 
 /// So many elements.
 pub fn copied(
     alloc: Global,
     code: &mut Vec<Instr>,
+    pace: Pace,
     way: Way,
     kind: Kind,
     count: u32,
 ) -> Result<(), AllocError>
     requires { count < 65536 }
-    ensures { OnOk result (code.new.items ≡ code.old.items ++ copied_code (element_code way kind) kind count) }
+    ensures { OnOk result (code.new.items ≡ code.old.items ++ copied_code pace (element_code way kind) kind count) }
 {
-    if count < MANY {
+    if count < few_elements(pace) {
         elements(code, way, kind, 0, count)
     } else {
-        rounds(alloc, code, way, kind, count)
+        rounds(alloc, code, pace, way, kind, count)
     }
 }

@@ -9,7 +9,7 @@ ghost use Rattle.functions.specs.function_code.Above.{IsAbove};
 use crate::function_code::arrays::copy_in;
 use crate::function_code::pieces::added;
 use crate::function_code::registers;
-use crate::function_code::room::{IN_REGISTERS, stacked_offset};
+use crate::function_code::room::{Around, IN_REGISTERS, stacked_offset};
 use codegen::expression_code::emit::{constant, load, store};
 use codegen::image_fields::{ImageFields, Slot};
 use language::{Form, Kind};
@@ -116,15 +116,16 @@ pub fn argument(
     alloc: Global,
     code: &mut Vec<Instr>,
     image: &ImageFields,
-    above: u32,
+    around: Around,
     index: u16,
     slot: Slot,
 ) -> Result<(), AllocError>
-    requires { IsAbove image.now above }
-    ensures { OnOk result (code.new.items ≡ code.old.items ++ argument_code image.now index slot slot.param.form) }
+    requires { IsAbove image.now around.above }
+    ensures { OnOk result (code.new.items
+        ≡ code.old.items ++ argument_code image.now around.pace index slot slot.param.form) }
 {
     match slot.param.form {
-        Form::SingleWord => word(code, image, above, index, slot),
-        Form::FixedArray | Form::MutableArray => copy_in(alloc, code, image, above, index, slot),
+        Form::SingleWord => word(code, image, around.above, index, slot),
+        Form::FixedArray | Form::MutableArray => copy_in(alloc, code, image, around, index, slot),
     }
 }

@@ -8,6 +8,7 @@ ghost use Rattle.functions.specs.function_code.Above.{IsAbove};
 use crate::function_code::arrays::copy_out;
 use crate::function_code::pieces::{added, address};
 use crate::function_code::registers;
+use crate::function_code::room::Around;
 use codegen::expression_code::emit::load;
 use codegen::image_fields::{ImageFields, ResultSlot, Slot};
 use language::Form;
@@ -34,16 +35,17 @@ pub fn array(
     alloc: Global,
     code: &mut Vec<Instr>,
     image: &ImageFields,
-    above: u32,
+    around: Around,
     index: u16,
     slot: Slot,
 ) -> Result<(), AllocError>
-    requires { IsAbove image.now above }
-    ensures { OnOk result (code.new.items ≡ code.old.items ++ copy_out_code image.now index slot slot.param.form) }
+    requires { IsAbove image.now around.above }
+    ensures { OnOk result (code.new.items
+        ≡ code.old.items ++ copy_out_code image.now around.pace index slot slot.param.form) }
 {
     match slot.param.form {
         Form::SingleWord | Form::FixedArray => Ok(()),
-        Form::MutableArray => copy_out(alloc, code, image, above, index, slot),
+        Form::MutableArray => copy_out(alloc, code, image, around, index, slot),
     }
 }
 

@@ -8,6 +8,7 @@ ghost use Rattle.functions.specs.function_code.Above.{IsAbove};
 use crate::function_code::kept::kept_count;
 use codegen::image_fields::{ImageFields, Slot};
 use language::Form;
+use linked_calls::Pace;
 
 /// A block of the stack, of which x2 is always a multiple.
 const BLOCK: u32 = 16;
@@ -17,6 +18,13 @@ const WORD: u32 = 4;
 
 /// How many arguments the registers a0 to a7 take.
 pub const IN_REGISTERS: u16 = 8;
+
+/// What the code around a body is made by: how many bytes stand above its frame, counted once, and the pace.
+#[derive(Clone, Copy)]
+pub struct Around {
+    pub above: u32,
+    pub pace: Pace,
+}
 
 /// The bytes of the frame, in whole blocks of 16.
 pub(crate) fn frame_room(image: &ImageFields) -> u32

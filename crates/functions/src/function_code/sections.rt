@@ -17,12 +17,12 @@ use crate::function_code::kept::kept;
 use crate::function_code::leaving::{array, callers_stack, frame_top, go_back, result};
 use crate::function_code::pieces::{clear_registers, loads, stores};
 use crate::function_code::registers;
-use crate::function_code::room::{first_argument, frame_room, needed_count, room_of};
+use crate::function_code::room::{Around, first_argument, frame_room, needed_count, room_of};
 use crate::function_code::zeroing::{cleared_frame, wiped_room};
 use codegen::image_fields::{ImageFields, Slot};
 use hepurita::FrameNeeds;
 use language::{Form, Kind, Param};
-use linked_calls::Section;
+use linked_calls::{Pace, Section};
 use rv_code::{Instr, Reg};
 use std::alloc::{AllocError, Global};
 
@@ -125,17 +125,18 @@ fn push_blank(sections: &mut Vec<Section>, offsets: &[u32]) -> Result<(), AllocE
 /// Puts those of a frame that has room at the end.
 fn push_frame(
     sections: &mut Vec<Section>,
+    pace: Pace,
     room: u32,
     blank: Option<&[u32]>,
 ) -> Result<(), AllocError>
     ensures { OnOk result (sections.new.items
-        ≡ sections.old.items ++ frame_sections room (option_map (λ offsets. offsets.now) blank.entry)) }
+        ≡ sections.old.items ++ frame_sections pace room (option_map (λ offsets. offsets.now) blank.entry)) }
 {
     if room == 0 {
         return Ok(());
     }
     match blank {
-        Some(offsets) if are_few(room, offsets) => push_blank(sections, offsets),
+        Some(offsets) if are_few(pace, room, offsets) => push_blank(sections, offsets),
         Some(_) | None => push_cleared(sections),
     }
 }
@@ -145,14 +146,15 @@ pub fn enter_sections(
     alloc: Global,
     image: &ImageFields,
     needs: &FrameNeeds,
+    pace: Pace,
 ) -> Result<Vec<Section>, AllocError>
-    ensures { IfOk result (λ sections. sections.items ≡ enter_sections image.now (needs_as needs.now)) }
+    ensures { IfOk result (λ sections. sections.items ≡ enter_sections image.now (needs_as needs.now) pace) }
 {
     let mut sections = Vec::new(alloc);
     sections.push(Section::RoomAboveFrame)?;
     sections.push(Section::SavedRegisters)?;
     sections.push(Section::ArgumentRegisters)?;
-    push_frame(&mut sections, frame_room(image), needs.blank_words())?;
+    push_frame(&mut sections, pace, frame_room(image), needs.blank_words())?;
     push_arguments(&mut sections, needs.spared.as_slice(), image.slots())?;
     Ok(sections)
 }
@@ -222,43 +224,43 @@ fn push_code(
     alloc: Global,
     code: &mut Vec<Instr>,
     image: &ImageFields,
-    above: u32,
+    around: Around,
     section: Section,
 ) -> Result<(), AllocError>
-    requires { IsAbove image.now above }
-    ensures { OnOk result (code.new.items ≡ code.old.items ++ section_code image.now section) }
+    requires { IsAbove image.now around.above }
+    ensures { OnOk result (code.new.items ≡ code.old.items ++ section_code image.now around.pace section) }
 {
     match section {
-        Section::RoomAboveFrame => room_above(code, image, above),
+        Section::RoomAboveFrame => room_above(code, image, around.above),
         Section::SavedRegisters => saved_registers(alloc, code, image),
-        Section::ArgumentRegisters => argument_registers(code, image, above),
+        Section::ArgumentRegisters => argument_registers(code, image, around.above),
         Section::FrameBase => frame_base(code, frame_room(image)),
-        Section::ClearedFrame => cleared_frame(alloc, code, frame_room(image)),
+        Section::ClearedFrame => cleared_frame(alloc, code, around.pace, frame_room(image)),
         Section::LoweredStack => lowered_stack(code, frame_room(image)),
         Section::BlankWord(offset) => blank_word(code, offset),
-        Section::ArgumentIn(index, slot) => argument(alloc, code, image, above, index, slot),
+        Section::ArgumentIn(index, slot) => argument(alloc, code, image, around, index, slot),
         Section::ResultOut => result(code, image.returned()),
-        Section::ArrayOut(index, slot) => array(alloc, code, image, above, index, slot),
+        Section::ArrayOut(index, slot) => array(alloc, code, image, around, index, slot),
         Section::FrameTop => frame_top(code, frame_room(image)),
         Section::RestoredRegisters => restored_registers(alloc, code, image),
-        Section::CallersStack => callers_stack(code, image, above),
-        Section::WipedRoom => wiped_room(alloc, code, room_of(image)),
+        Section::CallersStack => callers_stack(code, image, around.above),
+        Section::WipedRoom => wiped_room(alloc, code, around.pace, room_of(image)),
         Section::ClearedRegisters => clear_registers(code, &registers::scratch()),
         Section::Return => go_back(code),
     }
 }
 
-/// The instructions of a section of an image's function, with so many bytes above its frame.
+/// The instructions of a section of an image's function, with so many bytes above its frame, at a pace.
 pub fn section_code(
     alloc: Global,
     image: &ImageFields,
-    above: u32,
+    around: Around,
     section: Section,
 ) -> Result<Vec<Instr>, AllocError>
-    requires { IsAbove image.now above }
-    ensures { IfOk result (λ code. code.items ≡ section_code image.now section) }
+    requires { IsAbove image.now around.above }
+    ensures { IfOk result (λ code. code.items ≡ section_code image.now around.pace section) }
 {
     let mut code = Vec::new(alloc);
-    push_code(alloc, &mut code, image, above, section)?;
+    push_code(alloc, &mut code, image, around, section)?;
     Ok(code)
 }

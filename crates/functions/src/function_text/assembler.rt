@@ -12,7 +12,8 @@ ghost use Rattle.functions.specs.function_text.Functions.{parts_of};
 ghost use Rattle.functions.specs.function_code.Above.{IsAbove};
 
 use crate::function_code::{
-    above_frame, body, enter_sections, function_words, leave_sections, room_of, section_code,
+    Around, above_frame, body, enter_sections, function_words, leave_sections, room_of,
+    section_code,
 };
 use crate::function_text::function::Function;
 use crate::function_text::lines::{push_end, push_instruction, push_number, push_title};
@@ -66,9 +67,10 @@ fn push_section(
     requires { IsAbove function.now.image above }
     ensures written { OnOk result (string_bytes text.new ≡ string_bytes text.old
         ++ section_lines notation (parts_of function.now) start section) }
-    ensures ends { IfOk result (λ end. end ≡ behind start (section_code function.now.image section)) }
+    ensures ends { IfOk result (λ end. end ≡ behind start (section_code function.now.image function.now.pace section)) }
 {
-    let code = section_code(alloc, &function.image, above, section)?;
+    let pace = function.pace;
+    let code = section_code(alloc, &function.image, Around { above, pace }, section)?;
     push_title(text, section)?;
     let end = push_code(text, function, notation, section, start, code.as_slice())?;
     push_end(text, &function.image, section)?;
@@ -86,7 +88,8 @@ fn push_sections(
 ) -> Result<u32, AllocError>
     ensures written { OnOk result (string_bytes text.new ≡ string_bytes text.old
         ++ sections_lines notation (parts_of function.now) start sections.now) }
-    ensures ends { IfOk result (λ end. end ≡ behind_sections function.now.image start sections.now) }
+    ensures ends { IfOk result (λ end.
+        end ≡ behind_sections function.now.image function.now.pace start sections.now) }
 {
     let above = above_frame(&function.image);
     let mut at = start;
@@ -121,7 +124,7 @@ fn push_words(
 fn push_sizes(alloc: Global, text: &mut String, function: &Function) -> Result<(), AllocError>
     ensures { OnOk result (string_bytes text.new ≡ string_bytes text.old ++ sizes_text (parts_of function.now)) }
 {
-    let words = function_words(alloc, &function.image, &function.needs)?;
+    let words = function_words(alloc, &function.image, &function.needs, function.pace)?;
     push_number(text, words.len() as u64)?;
     text.push_str(" words, ")?;
     push_number(text, u64::from(room_of(&function.image)))?;
@@ -197,7 +200,7 @@ fn push_entry(
         ≡ string_bytes text.old ++ entry_lines notation (parts_of function.now)) }
     ensures ends { IfOk result (λ end. end ≡ body_start (parts_of function.now)) }
 {
-    let sections = enter_sections(alloc, &function.image, &function.needs)?;
+    let sections = enter_sections(alloc, &function.image, &function.needs, function.pace)?;
     push_sections(alloc, text, function, notation, 0, sections.as_slice())
 }
 

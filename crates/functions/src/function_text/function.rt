@@ -2,7 +2,7 @@
 
 ghost use Rattle.std.specs.Prelude.{◌≡◌, false, List, [], ◌++◌, Some, map, IfOk, IfErr};
 ghost use Rattle.std.specs.String.{string_bytes};
-ghost use Rattle.functions.specs.function_text.Functions.{IsFunctionOf, IsFaultOf, IsUnlessMemory, named};
+ghost use Rattle.functions.specs.function_text.Functions.{IsFunctionOf, IsFaultOf, IsUnlessMemory, named, pace_of};
 ghost use Rattle.functions.specs.function_text.Functions.{parts_of};
 ghost use Rattle.functions.specs.function_text.Functions.{written_parameter};
 ghost use Rattle.functions.specs.function_text.Names.{is_taken_function};
@@ -17,6 +17,7 @@ use codegen::Code;
 use codegen::image_fields::ImageFields;
 use hepurita::{Compiled, FrameNeeds, Optimisation, compile_with};
 use language::{Name, Param, Parameter, Procedure, Profile, Program, Refusal};
+use linked_calls::Pace;
 use std::alloc::{AllocError, Global};
 
 /// A parameter under the name that is written for it.
@@ -34,6 +35,8 @@ pub struct Function {
     pub image: ImageFields,
     /// What the body needs of its frame where it begins.
     pub needs: FrameNeeds,
+    /// What the code around the body is made for.
+    pub pace: Pace,
 }
 
 /// Parameters under the names that are written for them.
@@ -76,6 +79,16 @@ fn function_name(alloc: Global, prefix: &str, export: &str) -> Result<String, Al
     format!(in alloc; "{prefix}{export}")
 }
 
+/// The pace of the code around a body: few words where the body has few.
+fn pace_of(optimisation: Optimisation) -> Pace
+    ensures { result ≡ pace_of optimisation }
+{
+    match optimisation {
+        Optimisation::Off | Optimisation::On => Pace::Fast,
+        Optimisation::Small => Pace::Small,
+    }
+}
+
 /// The function of an export and of its code, under a name that is free.
 fn named_function(
     alloc: Global,
@@ -83,10 +96,11 @@ fn named_function(
     export: &Procedure,
     code: Code,
     needs: FrameNeeds,
+    pace: Pace,
 ) -> Result<Function, Refusal>
     requires { is_taken_function name.now ≡ false }
     ensures made { IfOk result (λ function.
-        IsOfExport name.now (procedure_tree export.now) code (needs_as needs) (parts_of function)) }
+        IsOfExport name.now (procedure_tree export.now) code (needs_as needs) pace (parts_of function)) }
     ensures memory { IfErr result (λ refusal. IsWantOfMemory refusal.rule refusal.place) }
 {
     let macros = macros_of(alloc, name)?;
@@ -97,6 +111,7 @@ fn named_function(
         parameters,
         image: code.into_fields(),
         needs,
+        pace,
     })
 }
 
@@ -107,15 +122,16 @@ fn of_export(
     export: &Procedure,
     code: Code,
     needs: FrameNeeds,
+    pace: Pace,
 ) -> Result<Function, FunctionFault<Refusal>>
     ensures made { IfOk result (λ function.
-        IsOfExport name.now (procedure_tree export.now) code (needs_as needs) (parts_of function)) }
+        IsOfExport name.now (procedure_tree export.now) code (needs_as needs) pace (parts_of function)) }
     ensures fault { IfErr result (λ fault. IsUnlessMemory fault (NameIsTaken name.now (procedure_tree export.now))) }
 {
     if is_taken_function(name) {
         return Err(FunctionFault::Name(export.place));
     }
-    Ok(named_function(alloc, name, export, code, needs)?)
+    Ok(named_function(alloc, name, export, code, needs, pace)?)
 }
 
 /// The function of a source that is accepted for an observer of this profile, with plain or optimised code; its name is
@@ -140,5 +156,12 @@ pub fn function_of(
     } = compiled;
     let export = export_of(&program);
     let name = function_name(alloc, prefix, export.name.as_str())?;
-    of_export(alloc, name.as_str(), export, code, needs)
+    of_export(
+        alloc,
+        name.as_str(),
+        export,
+        code,
+        needs,
+        pace_of(optimisation),
+    )
 }

@@ -4,11 +4,13 @@ use Rattle.functions.specs.function_text.Functions.{FunctionParts, written_param
 use Rattle.functions.specs.function_text.Names.{is_taken_function}
 use Rattle.functions.specs.Below.{Fields, Place, ProcedureTree}
 use Rattle.hepurita.specs.Needs.{Needs}
+use Rattle.linked_calls.specs.declared.pace.Pace.{Pace}
 
-pub record IsOfExport (name : List ℕ) (export : ProcedureTree) (code : Fields) (needs : Needs)
+pub record IsOfExport (name : List ℕ) (export : ProcedureTree) (code : Fields) (needs : Needs) (pace : Pace)
     (parts : FunctionParts) : Type 0 where
   pub image : parts.image ≡ code
   pub needs_are : parts.needs ≡ needs
+  pub pace_is : parts.pace ≡ pace
   pub named : parts.name ≡ name
   pub free : is_taken_function name ≡ false
   pub parameters : parts.parameters ≡ map (written_parameter name) export.parameters

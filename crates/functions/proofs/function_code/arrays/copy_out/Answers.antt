@@ -8,7 +8,7 @@ returns c =
     let old = c.args.code.now.items in
     let pointer = pointer_out_code c.args.image.now c.args.index in
     let place = address_code 6 c.args.slot.offset in
-    let code = array_code copied_out_code (goes_out_by_words kind) kind in
+    let code = array_code c.args.around.pace copied_out_code (goes_out_by_words kind) kind in
     let placed : c.address.new.code.items ≡ old ++ (pointer ++ place) =
     c.in_ok-address.ensures ∙ ap (λ (xs : List Instr). xs ++ place) c.in_ok-pointer_out.ensures
     ∙ append_assoc old pointer place in

@@ -21,7 +21,7 @@ returns-clause-made c =
     (λ f of. made c.args.optimisation c.args.profile c.args.prefix.now c.args.source.now _ is.0 is.1 _ _ is.2 is.3
     is.4 at.0 _ at.1 _
     (c.as_str-2.ensures.value ∙ c.in_ok-name.ensures
-    ∙ ap (λ (n : List ℕ). c.args.prefix.now ++ n) c.as_str.ensures) (parts_of f) of)
+    ∙ ap (λ (n : List ℕ). c.args.prefix.now ++ n) c.as_str.ensures) _ c.pace_of.ensures (parts_of f) of)
     c.of_export.ensures.made
 
 pub returns-clause-fault : goal.returns-clause-fault

@@ -10,6 +10,7 @@ returns-clause-made c =
     record {
       image = c.into_fields.ensures;
       needs_are = refl;
+      pace_is = refl;
       named = c.in_ok-name.ensures;
       free = c.requires;
       parameters =
