@@ -1,4 +1,4 @@
-# leading_zeros_32: made by factc 1.0.0 function; 70 words, 32 bytes of stack, profile 1
+# leading_zeros_32: made by factc 1.0.0 function; 67 words, 32 bytes of stack, profile 1
     .option push
     .option norvc
     .option norelax
@@ -77,11 +77,8 @@ leading_zeros_32:
     .word 0x00012223  # sw x0, 4(x2)
     .word 0x00012423  # sw x0, 8(x2)
     .word 0x00012623  # sw x0, 12(x2)
-    .word 0x00012823  # sw x0, 16(x2)
-    .word 0x00012a23  # sw x0, 20(x2)
-    .word 0x00012c23  # sw x0, 24(x2)
-    .word 0x00012e23  # sw x0, 28(x2)
-    .word 0x02010113  # addi x2, x2, 32
+    .word 0x01010113  # addi x2, x2, 16
+    .word 0xfe5116e3  # bne x2, x5, -20
     .cfi_def_cfa 2, 0
     # temporaries, wiped
     .word 0x00000293  # addi x5, x0, 0

@@ -9,9 +9,9 @@ use Rattle.std.proofs.lemmas.Bool.Decides.{nat_tests}
 use Rattle.std.proofs.lemmas.List.{length-map, map-append}
 use Rattle.codegen.proofs.program_logic_lemmas.Counted.{as_code, computes_runs, in_steps, loop}
 use Rattle.codegen.proofs.program_logic_lemmas.Counted.{makes_then, no_code, Runs, Setting, straight_runs, then_runs, weaken_runs}
-use Rattle.linked_calls.proofs.Below.{Add, AreApart, AreData, ByteMap, copied_code, copied_steps, constant_code, Data}
+use Rattle.linked_calls.proofs.Below.{AreApart, AreData, ByteMap, copied_code, copied_steps, Data}
 use Rattle.linked_calls.proofs.Below.{element_bytes, elements_code, Instr, Kind, near_address, next_code, number_at}
-use Rattle.linked_calls.proofs.Below.{number_or_zero, numbers_at, OthersAsBefore, passed_count, Register, register_kept}
+use Rattle.linked_calls.proofs.Below.{number_or_zero, numbers_at, OthersAsBefore, passed_count, register_kept}
 use Rattle.linked_calls.proofs.Below.{rounds_code, rounds_steps, sign_extended, sum_of, until_equal, unwritten}
 use Rattle.linked_calls.proofs.Below.{with_number, with_numbers, with_register, with_result}
 use Rattle.linked_calls.proofs.Bytes.{number_beside, number_there, numbers_count, is_some-with_numbers, numbers_more}
