@@ -35,6 +35,7 @@ LOOPS = [
     ("hepurita/src/elements.rt", "numbers", "the elements of an array of the frame, put into room that is there"),
     ("image/src/reading.rt", "slots", "the bytes that are left: a slot that they do not spell ends it"),
     ("image/src/reading.rt", "words", "the bytes that are left: a word that they do not spell ends it"),
+    ("input_files/src/harts_file/plan.rt", "read_lines", "the plan, and the longest line of the file"),
     ("input_files/src/harts_file/taking.rt", "take_rounds", "the turns that a line asks for, 1,048,576 at most with all before"),
     ("intervals/src/ranges.rt", "first_bounds", "what the body declares"),
     ("listing/src/steps.rt", "write_steps", "nothing is kept from step to step"),

@@ -8,4 +8,4 @@ pub mod LineLemmas
 pub mod ReadLemmas
 pub mod RoundLemmas
 pub mod ReaderLemmas
-pub mod ReadSteps
+pub mod TakenLemmas

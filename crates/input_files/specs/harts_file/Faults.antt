@@ -1,10 +1,14 @@
 -- Which line of a text is the first that breaks a rule.
 use Rattle.std.specs.Prelude.{◌≡◌, ℕ, ◌+◌, Bool, nat_lt, nat_le, ◌==◌, if◌then◌else◌, List, [], ◌∷◌, ◌++◌, length}
-use Rattle.std.specs.Prelude.{flat_map, filter_map, Option, Some, None}
+use Rattle.std.specs.Prelude.{flat_map, filter_map, Option, Some, None, ⊤}
+use Rattle.std.specs.Str.{IsUtf8}
 use Rattle.input_files.specs.Below.{HartCount, HartsRule, LineForm, most_images, most_turns, NoSuchHart, TooManyTurns}
 use Rattle.input_files.specs.harts_file.Lines.{PlannedHart, PlannedTurns, LineContent, a_hart, some_turns, lines_of}
 use Rattle.input_files.specs.harts_file.Lines.{said_in}
 use Rattle.input_files.specs.harts_file.Plans.{turns_listed, is_known}
+use Rattle.input_files.specs.declared.harts_file.fault.PlanFault.TheVariants.{Line, Memory}
+use Rattle.input_files.specs.declared.harts_file.fault.PlanFileFault.{PlanFileFault}
+use Rattle.input_files.specs.declared.harts_file.fault.PlanFileFault.TheVariants.{NotUtf8, Plan, Read}
 
 -- what lines give: harts, whether there is a line of turns, and whose turn it is
 pub record GivenByLines : Type 0 where
@@ -80,3 +84,11 @@ pub data IsFault (text : List ℕ) : HartsRule → ℕ → Type 0 where
       → said_in text ≡ front ++ line ∷ rest → AreFine front
       → rule_of (given_by front) line ≡ Some rule → IsFault text rule (length front + 1)
   of_none : lines_of text ≡ [] → IsFault text HartCount 1
+
+-- why a file's bytes give no plan: they are no text; or by the text's first faulty line. That a call failed, or that
+-- memory was refused, may be answered of all
+abbrev pub IsFileFault : List ℕ → PlanFileFault → Type 0
+IsFileFault text Read = ⊤
+IsFileFault text NotUtf8 = ¬ IsUtf8 text
+IsFileFault text (Plan (Line rule line)) = IsUtf8 text × IsFault text rule line
+IsFileFault text (Plan Memory) = ⊤

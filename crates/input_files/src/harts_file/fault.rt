@@ -1,5 +1,6 @@
 ghost use Rattle.std.specs.Prelude.{◌≡◌};
 ghost use Rattle.input_files.specs.declared.harts_file.fault.PlanFault.TheVariants.{Memory};
+ghost use Rattle.input_files.specs.declared.harts_file.fault.PlanFileFault.TheVariants.{Plan};
 
 use harts::HartsRule;
 use language::Refusal;
@@ -47,5 +48,24 @@ impl fmt::Display for PlanFault {
             }
             PlanFault::Memory => write!(f, "{}", Refusal::memory()),
         }
+    }
+}
+
+/// Why a file gives no plan.
+#[derive(Clone, Copy, Debug, PartialEq, Eq)]
+pub enum PlanFileFault {
+    /// A call of its source failed.
+    Read,
+    /// Its bytes are no text.
+    NotUtf8,
+    /// Its text gives no plan.
+    Plan(PlanFault),
+}
+
+impl From<PlanFault> for PlanFileFault {
+    ghost from_gives = { λ why fault. fault ≡ Plan why };
+
+    fn from(why: PlanFault) -> Self {
+        PlanFileFault::Plan(why)
     }
 }

@@ -6,19 +6,26 @@ ghost use Rattle.input_files.specs.harts_file.Lines.{is_joined, hart_by, turns_b
 ghost use Rattle.input_files.specs.harts_file.Lines.{said_by_fields, said_of};
 ghost use Rattle.input_files.specs.harts_file.private.Reading.{said_by_line, held};
 
-use crate::harts_file::jobs::FileJob;
 use crate::harts_file::numerals::decimal;
 use std::alloc::{AllocError, Global};
 
 /// What a line of a good form says.
 #[derive(Debug, Drop)]
 pub enum Line<'a> {
-    /// One hart more.
-    Hart(FileJob<'a>),
+    /// One hart more: the path of its image, and its arguments.
+    Hart {
+        path: &'a str,
+        arguments: Vec<&'a str>,
+    },
     /// So many turns of this hart.
-    Turns { hart: u64, count: u64 },
+    Turns {
+        hart: u64,
+        count: u64,
+    },
     /// So many times one turn of each hart, in their order.
-    Round { count: u64 },
+    Round {
+        count: u64,
+    },
 }
 
 /// A blank.
@@ -39,7 +46,7 @@ fn hart_by<'a>(alloc: Global, fields: &[&'a str]) -> Result<Option<Line<'a>>, Al
     match fields {
         [path, arguments @ ..] => {
             let arguments = Vec::from_slice(alloc, arguments)?;
-            Ok(Some(Line::Hart(FileJob { path, arguments })))
+            Ok(Some(Line::Hart { path, arguments }))
         }
         [] => Ok(None),
     }

@@ -7,8 +7,8 @@ use crate::harts_file::jobs::FileJob;
 
 /// What has been read of a plan.
 #[derive(Debug, Drop)]
-pub struct PlanReader<'a> {
-    pub jobs: Vec<FileJob<'a>>,
+pub struct PlanReader {
+    pub jobs: Vec<FileJob>,
     pub schedule: Vec<u8>,
     /// Whether turns were read, after which there comes no hart.
     pub has_turns: bool,

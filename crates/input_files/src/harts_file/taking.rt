@@ -6,16 +6,15 @@ ghost use Rattle.std.specs.List.{range_with_len, repeat};
 ghost use Rattle.input_files.specs.Below.{most_turns};
 ghost use Rattle.input_files.specs.harts_file.Lines.{turns_of, rounds, a_hart, some_turns, said_of};
 ghost use Rattle.input_files.specs.harts_file.Faults.{given_from, rule_of, rule_of_said};
-ghost use Rattle.input_files.specs.harts_file.Jobs.{hart_of};
-ghost use Rattle.input_files.specs.harts_file.private.Reading.{given_to, given_also, given_with};
+ghost use Rattle.input_files.specs.harts_file.private.Reading.{given_to, given_also, given_with, line_hart};
 
-use crate::harts_file::jobs::FileJob;
+use crate::harts_file::jobs::job_of;
 use crate::harts_file::lines::{Line, line_of};
 use crate::harts_file::reader::PlanReader;
 use harts::{HartsRule, MOST_IMAGES, MOST_TURNS};
 use std::alloc::{AllocError, Global};
 
-impl<'a> PlanReader<'a> {
+impl PlanReader {
     /// No line was read.
     pub fn new(alloc: Global) -> Self
         ensures { given_to result ≡ given_from [] [] }
@@ -28,23 +27,32 @@ impl<'a> PlanReader<'a> {
     }
 
     /// Takes the next line, which stands without its end, and answers the first rule that it breaks, if it breaks one.
-    pub fn take(&mut self, alloc: Global, text: &'a str) -> Result<Option<HartsRule>, AllocError>
+    pub fn take(&mut self, alloc: Global, text: &str) -> Result<Option<HartsRule>, AllocError>
         ensures rule { IfOk result (λ rule. rule ≡ rule_of (given_to self.old) (said_of text.now)) }
         ensures taken { IfOk result (λ rule.
             rule ≡ None → given_to self.new ≡ given_with (given_to self.old) (said_of text.now)) }
     {
         match line_of(alloc, text)? {
-            Some(Line::Hart(job)) => self.take_hart(job),
+            Some(Line::Hart { path, arguments }) => {
+                self.take_hart(alloc, path, arguments.as_slice())
+            }
             Some(Line::Turns { hart, count }) => self.take_turns(hart, count),
             Some(Line::Round { count }) => self.take_rounds(count),
             None => Ok(Some(HartsRule::LineForm)),
         }
     }
 
-    fn take_hart(&mut self, job: FileJob<'a>) -> Result<Option<HartsRule>, AllocError>
-        ensures rule { IfOk result (λ rule. rule ≡ rule_of_said (given_to self.old) (a_hart (hart_of job.entry))) }
+    fn take_hart(
+        &mut self,
+        alloc: Global,
+        path: &str,
+        arguments: &[&str],
+    ) -> Result<Option<HartsRule>, AllocError>
+        ensures rule { IfOk result (λ rule.
+            rule ≡ rule_of_said (given_to self.old) (a_hart (line_hart path.entry arguments.now))) }
         ensures taken { IfOk result (λ rule.
-            rule ≡ None → given_to self.new ≡ given_also (given_to self.old) (a_hart (hart_of job.entry))) }
+            rule ≡ None
+            → given_to self.new ≡ given_also (given_to self.old) (a_hart (line_hart path.entry arguments.now))) }
     {
         if self.has_turns {
             return Ok(Some(HartsRule::LineForm));
@@ -52,7 +60,7 @@ impl<'a> PlanReader<'a> {
         if self.jobs.len() == MOST_IMAGES {
             return Ok(Some(HartsRule::HartCount));
         }
-        self.jobs.push(job)?;
+        self.jobs.push(job_of(alloc, path, arguments)?)?;
         Ok(None)
     }
 

@@ -12,7 +12,7 @@ returns-in-Some-Turns-clause-rule c =
     let jobs = c.args.self.now.jobs in
     turns_answer (given_to c.args.self.now) (said_of c.args.text.now)
     (turns_of c.in-Some-Turns.hart c.in-Some-Turns.count)
-    (sym (ap (option_map said_by_line) (c.in-Some-Turns.is ∙ ap Some c.in-Some-Turns.field-0-is)) ∙ c.in_ok-job.ensures)
+    (sym (ap (option_map said_by_line) (c.in-Some-Turns.is ∙ ap Some c.in-Some-Turns.field-0-is)) ∙ c.in_ok-path.ensures)
     (omega (arith, length-map jobs.items hart_of, jobs.ok.0, c.args.self.now.few)) c.take_turns.result
     c.take_turns.ensures.rule
 
@@ -21,7 +21,7 @@ returns-in-Some-Turns-clause-taken c =
     let jobs = c.args.self.now.jobs in
     turns_taken (given_to c.args.self.now) (said_of c.args.text.now)
     (turns_of c.in-Some-Turns.hart c.in-Some-Turns.count)
-    (sym (ap (option_map said_by_line) (c.in-Some-Turns.is ∙ ap Some c.in-Some-Turns.field-0-is)) ∙ c.in_ok-job.ensures)
+    (sym (ap (option_map said_by_line) (c.in-Some-Turns.is ∙ ap Some c.in-Some-Turns.field-0-is)) ∙ c.in_ok-path.ensures)
     (omega (arith, length-map jobs.items hart_of, jobs.ok.0, c.args.self.now.few)) c.take_turns.result
     (given_to c.take_turns.new.self) c.take_turns.ensures.rule c.take_turns.ensures.taken
 
@@ -29,7 +29,7 @@ pub returns-in-Some-Round-clause-rule : goal.returns-in-Some-Round-clause-rule
 returns-in-Some-Round-clause-rule c =
     let jobs = c.args.self.now.jobs in
     turns_answer (given_to c.args.self.now) (said_of c.args.text.now) (rounds c.in-Some-Round.count)
-    (sym (ap (option_map said_by_line) (c.in-Some-Round.is ∙ ap Some c.in-Some-Round.field-0-is)) ∙ c.in_ok-job.ensures)
+    (sym (ap (option_map said_by_line) (c.in-Some-Round.is ∙ ap Some c.in-Some-Round.field-0-is)) ∙ c.in_ok-path.ensures)
     (omega (arith, length-map jobs.items hart_of, jobs.ok.0, c.args.self.now.few)) c.take_rounds.result
     c.take_rounds.ensures.rule
 
@@ -37,6 +37,6 @@ pub returns-in-Some-Round-clause-taken : goal.returns-in-Some-Round-clause-taken
 returns-in-Some-Round-clause-taken c =
     let jobs = c.args.self.now.jobs in
     turns_taken (given_to c.args.self.now) (said_of c.args.text.now) (rounds c.in-Some-Round.count)
-    (sym (ap (option_map said_by_line) (c.in-Some-Round.is ∙ ap Some c.in-Some-Round.field-0-is)) ∙ c.in_ok-job.ensures)
+    (sym (ap (option_map said_by_line) (c.in-Some-Round.is ∙ ap Some c.in-Some-Round.field-0-is)) ∙ c.in_ok-path.ensures)
     (omega (arith, length-map jobs.items hart_of, jobs.ok.0, c.args.self.now.few)) c.take_rounds.result
     (given_to c.take_rounds.new.self) c.take_rounds.ensures.rule c.take_rounds.ensures.taken
