@@ -1,31 +1,35 @@
 -- Harts that were loaded one after another, and files that were read to their end.
 use Rattle.std.proofs.Common.{◌≡◌, ℕ, ◌+◌, ◌<◌, ◌≤◌, true, List, [], ◌∷◌, ◌++◌, ◌⊎◌, inl, inr, length, map, take, drop}
-use Rattle.std.proofs.Common.{get_or, Bor, Global, Result, Ok, Err, Some, String, append_assoc, refl, sym, ap, ◌∙◌}
+use Rattle.std.proofs.Common.{get_or, Bor, Result, Ok, Err, Some, append_assoc, refl, sym, ap, ◌∙◌}
 use Rattle.std.proofs.Common.{subst, arith}
 use Rattle.std.specs.List.{AllZip}
 use Rattle.std.specs.Result.{IfOk, IfErr}
+use Rattle.std.specs.Str.{IsUtf8}
 use Rattle.std.specs.String.{string_bytes}
-use Rattle.std.proofs.lemmas.Str.{IsUtf8-string_bytes}
 use Rattle.std.proofs.lemmas.List.{take_more, take-append-drop, map-append, length-take, take_all}
-use Rattle.commands.specs.Below.{Arg, cut_short, fault_of_texts, Fields, hart_of, HartEnd, HartObservation, HartsFault}
-use Rattle.commands.specs.Below.{HartsRule, IsFault, IsPlan, job_of, out_of_memory, Param, params_of, PlanFault}
-use Rattle.commands.specs.Below.{PlannedHart, ran, refused, Refuses, RunFault, RunsHarts}
+use Rattle.commands.specs.Below.{Arg, cut_short, Fields, hart_of, HartEnd, HartObservation, HartsFault}
+use Rattle.commands.specs.Below.{IsPlan, job_of, out_of_memory, params_of, PlanFault}
+use Rattle.commands.specs.Below.{PlannedHart, ran, refused, Refuses, RunsHarts}
 use Rattle.commands.specs.Answered.{answered, RequestGives, not_answered}
 use Rattle.commands.specs.Contents.{Contents}
 use Rattle.commands.specs.declared.answer.Answer.{Answer}
 use Rattle.command_line.specs.declared.words.Request.TheVariants as requests
 use Rattle.commands.specs.Harts.{IsJobOf, SaysPlan, RefusesHart, RefusesJobs, by_hart, RefusesPlan, by_line, by_run}
 use Rattle.commands.specs.Harts.{by_plan, jobs_want_memory, no_arguments, no_image}
-use Rattle.commands.specs.Harts.{plan_wants_memory}
+use Rattle.commands.specs.Harts.{by_text, GivesPlan, plan_wants_memory, RefusesHarts}
+use Rattle.commands.specs.FileTexts.{unread_whole}
+use Rattle.commands.specs.Unread.{IsOutOfMemory, out_of_memory as wants_memory}
 use Rattle.commands.specs.ImageRefusals as refusals
 use Rattle.commands.specs.ImageArguments.{LacksArguments}
 use Rattle.commands.specs.HartsText.{harts_text, status_of_ends}
 use Rattle.commands.specs.Images.{HoldsImage}
-use Rattle.commands.specs.Words.{AreSpelled, IsFaultOfWords}
+use Rattle.commands.specs.Words.{AreSpelled}
 use Rattle.commands.specs.declared.fault.Fault.{Fault}
 use Rattle.commands.specs.declared.fault.Fault.TheVariants as faults
 use Rattle.harts.specs.declared.fault.HartsFault.TheVariants as harts_faults
 use Rattle.input_files.specs.declared.harts_file.fault.PlanFault.TheVariants.{Line, Memory}
+use Rattle.input_files.specs.declared.harts_file.fault.PlanFileFault.TheVariants.{Plan}
+use Rattle.input_files.specs.harts_file.Faults.{IsFileFault}
 use Rattle.harts.specs.SideBySide as side_by_side
 use Rattle.input_files.specs.declared.harts_file.jobs.FileJob.{FileJob}
 
@@ -62,17 +66,14 @@ one_job_more files named i job loaded loaded' image args low is put one all =
     (job_of (image, args)) all one))
 
 -- the job of a hart, from what was read
-pub job_from : (files : Contents) (job : FileJob) (image : Fields) (args : List Arg)
-    → HoldsImage files job.path.now image
-    → AreSpelled (params_of image) (map (λ text. text.now) job.arguments.items) args
+pub job_from : (files : Contents) (job : FileJob) (image : Fields) (args : List Arg) (path : List ℕ)
+    (words : List (List ℕ)) → path ≡ string_bytes job.path → words ≡ map string_bytes job.arguments.items
+    → HoldsImage files path image → AreSpelled (params_of image) words args
     → IsJobOf files (hart_of job) (record { image = image; args = args })
-job_from files job image args held spelled = record { held = held; spelled = spelled }
-
--- words that were lent
-pub spelled_by : {A : Type 0} {params : List Param} {args : List Arg} (texts items : List A) (bytes : A → List ℕ)
-    → texts ≡ items → AreSpelled params (map bytes texts) args → AreSpelled params (map bytes items) args
-spelled_by {A} {params} {args} texts items bytes is spelled =
-    subst (λ (words : List A). AreSpelled params (map bytes words) args) is spelled
+job_from files job image args path words same_path same_words held spelled = record {
+  held = subst (λ (p : List ℕ). HoldsImage files p image) same_path held;
+  spelled = subst (λ (ws : List (List ℕ)). AreSpelled (params_of image) ws args) same_words spelled;
+}
 
 -- what is said of a plan, from the answers of those who read it, load its jobs, run them and print that
 module _ (files : Contents) (plan : List ℕ) (harts : List PlannedHart) (schedule schedule' : List ℕ)
@@ -119,36 +120,41 @@ refused_at files named i job loaded fault low is all why =
     ap (map hart_of) split ∙ map-append hart_of (take i named) (job ∷ drop (i + 1) named) in
     by_hart _ _ (hart_of job) _ names all why
 
--- why words spell no arguments, from words in another form
-fault_from : {A : Type 0} {params others : List Param} (why : RunFault) (texts items : List A) (bytes : A
-    → List ℕ) → params ≡ others → texts ≡ items → IsFaultOfWords (fault_of_texts params (map bytes texts)) why
-    → IsFaultOfWords (fault_of_texts others (map bytes items)) why
-fault_from {A} {params} {others} why texts items bytes same is fault =
-    subst (λ (words : List A). IsFaultOfWords (fault_of_texts others (map bytes words)) why) is
-    (subst (λ (ps : List Param). IsFaultOfWords (fault_of_texts ps (map bytes texts)) why) same fault)
+-- why a hart's job is not had, from what was read
+lacks_job : (files : Contents) (job : FileJob) (fault : Fault)
+    → LacksArguments files (string_bytes job.path) (map string_bytes job.arguments.items) fault
+    → RefusesHart files (hart_of job) fault ⊎ IsOutOfMemory fault
+lacks_job files job fault (refusals.no_image why) = inl (no_image why)
+lacks_job files job fault (refusals.no_arguments held spelled) = inl (no_arguments held spelled)
+lacks_job files job fault (refusals.no_answer held never) = absurd never
+lacks_job files job fault (refusals.out_of_memory memory) = inr memory
 
--- why the job is not had of an image and arguments that are not had
+pub hart_refused : (files : Contents) (job : FileJob) (fault : Fault) (path : List ℕ) (words : List (List ℕ))
+    → path ≡ string_bytes job.path → words ≡ map string_bytes job.arguments.items
+    → LacksArguments files path words fault → RefusesHart files (hart_of job) fault ⊎ IsOutOfMemory fault
+hart_refused files job fault path words same_path same_words lacks =
+    lacks_job files job fault
+    (subst (λ (p : List ℕ). LacksArguments files p (map string_bytes job.arguments.items) fault) same_path
+    (subst (λ (ws : List (List ℕ)). LacksArguments files path ws fault) same_words lacks))
+
+-- and among those named
 pub job_refused : (files : Contents) (named : List FileJob) (i : ℕ) (job : FileJob) (loaded : List (Fields × List Arg))
-    (texts : List (Bor (List ℕ))) (fault : Fault) → i < length named → job ≡ get_or named i job
-    → AllZip (IsJobOf files) (map hart_of (take i named)) (map job_of loaded) → texts ≡ job.arguments.items
-    → LacksArguments files job.path.now (map (λ text. text.now) texts) fault
-    → RefusesJobs files (map hart_of named) fault
-job_refused files named i job loaded texts fault low is all same (refusals.no_image why) =
-    refused_at files named i job loaded fault low is all (no_image why)
-job_refused files named i job loaded texts fault low is all same (refusals.no_arguments {fault = why} held spelled) =
-    refused_at files named i job loaded fault low is all (no_arguments held
-    (fault_from why texts job.arguments.items (λ text. text.now) refl same spelled))
-job_refused files named i job loaded texts fault low is all same (refusals.no_answer held never) = absurd never
-job_refused files named i job loaded texts fault low is all same (refusals.out_of_memory memory) =
-    jobs_want_memory memory
+    (fault : Fault) → i < length named → job ≡ get_or named i job
+    → AllZip (IsJobOf files) (map hart_of (take i named)) (map job_of loaded)
+    → RefusesHart files (hart_of job) fault ⊎ IsOutOfMemory fault → RefusesJobs files (map hart_of named) fault
+job_refused files named i job loaded fault low is all (inl why) =
+    refused_at files named i job loaded fault low is all why
+job_refused files named i job loaded fault low is all (inr memory) = jobs_want_memory memory
 
--- a text that gives no plan
-pub plan_refused : {A : Type 0} (files : Contents) (plan : List ℕ) (why : PlanFault) (answer : Result A PlanFault)
-    → answer ≡ Err why
-    → ((rule : HartsRule) (line : ℕ) → answer ≡ Err (Line rule line) → IsFault plan rule line)
-    → RefusesPlan files plan (faults.Plan why)
-plan_refused files plan (Line rule line) answer is faulty = by_line (faulty rule line is)
-plan_refused files plan Memory answer is faulty = plan_wants_memory refl
+-- a file that gives a plan, and one that gives none
+pub plan_given : {files : Contents} {path plan : List ℕ} {harts : List PlannedHart} {schedule : List ℕ}
+    → files path ≡ Some plan → IsUtf8 plan × IsPlan plan harts schedule → GivesPlan files path harts schedule
+plan_given {plan = plan} held given = record { plan = plan; held = held; is_text = given.0; gives = given.1 }
+
+pub plan_refused : (files : Contents) (path plan : List ℕ) (why : PlanFault) → files path ≡ Some plan
+    → IsFileFault plan (Plan why) → RefusesHarts files path (faults.Plan why)
+plan_refused files path plan (Line rule line) held faulty = by_plan held faulty.0 (by_line faulty.1)
+plan_refused files path plan Memory held faulty = by_text (unread_whole (wants_memory refl))
 
 -- a run of harts that answers a fault refuses by it, or memory was refused
 run_answers : (jobs : List side_by_side.Job) (schedule : List ℕ) (before after : List HartObservation)
@@ -176,21 +182,18 @@ run_refused files plan harts schedule schedule' jobs jobs' before after why plan
         (subst (λ (js : List side_by_side.Job). Refuses js schedule' why) same_jobs refuses))
     by (inr memory) = plan_wants_memory memory
 
--- what is said of a plan that is a file's text is said of the file
-pub finds_harts : {files : Contents} (file : Bor (List ℕ)) (plan : String Global) (as_str : List ℕ)
-    (answer : Result Answer Fault) → files file.now ≡ Some (string_bytes plan) → as_str ≡ string_bytes plan
-    → IfOk answer (λ said. SaysPlan files as_str said.text.items said.status)
-    → IfErr answer (RefusesPlan files as_str) → RequestGives (requests.Harts file) files files answer
-finds_harts {files} file plan as_str (Ok said) held same so why =
+-- what is said of a plan is said of the file that gives it
+pub finds_harts : {files : Contents} (file : Bor (List ℕ)) (harts : List PlannedHart) (schedule : List ℕ)
+    (answer : Result Answer Fault) → GivesPlan files file.now harts schedule
+    → IfOk answer (λ said. (plan : List ℕ) → IsPlan plan harts schedule → SaysPlan files plan said.text.items said.status)
+    → IfErr answer (λ fault. (plan : List ℕ) → IsPlan plan harts schedule → RefusesPlan files plan fault)
+    → RequestGives (requests.Harts file) files files answer
+finds_harts {files} file harts schedule (Ok said) given so why =
     answered (record {
-      plan = string_bytes plan;
-      held = held;
-      is_text = IsUtf8-string_bytes plan;
-      said = subst (λ (text : List ℕ). SaysPlan files text said.text.items said.status) same so;
+      plan = given.plan;
+      held = given.held;
+      is_text = given.is_text;
+      said = so given.plan given.gives;
     }) refl
-finds_harts {files} file plan as_str (Err fault) held same so why =
-    not_answered (
-      by_plan held (IsUtf8-string_bytes plan)
-          (subst (λ (text : List ℕ). RefusesPlan files text fault) same why),
-      refl,
-    )
+finds_harts {files} file harts schedule (Err fault) given so why =
+    not_answered (by_plan given.held given.is_text (why given.plan given.gives), refl)

@@ -33,6 +33,13 @@ pub record SaysPlan (files : Contents) (plan text : List ℕ) (status : ℕ) : T
   pub printed : text ≡ harts_text jobs seen ends
   pub ended : status ≡ status_of_ends ends
 
+-- all of a file is the text of a plan of these harts, and of this schedule of their turns
+pub record GivesPlan (files : Contents) (path : List ℕ) (harts : List PlannedHart) (schedule : List ℕ) : Type 0 where
+  pub plan : List ℕ
+  pub held : files path ≡ Some plan
+  pub is_text : IsUtf8 plan
+  pub gives : IsPlan plan harts schedule
+
 -- the same of a file, all of which is the plan's text
 pub record SaysHarts (files : Contents) (path text : List ℕ) (status : ℕ) : Type 0 where
   pub plan : List ℕ

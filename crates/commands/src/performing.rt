@@ -31,6 +31,7 @@ use crate::trying::try_file;
 use crate::violations::check_all;
 use command_line::{Format, FormattedRequest, NoRequest, Request, parse};
 use explanations::Explanation;
+use input_files::harts_file::FileJob;
 use input_files::wrapping::Asked;
 use language::Refusal;
 use std::alloc::Global;
@@ -120,8 +121,8 @@ pub fn perform_in_text<F: Files, O: Sink, E: Sink>(
     ensures counted { EndsByStatus (F.store files.old).failures (F.store files.new).failures
         (O.failures out.old) (O.failures out.new) result }
 {
-    let mut text = String::new(alloc);
-    match answer(alloc, request, files, &mut text, out, err) {
+    let mut jobs = Vec::new(alloc);
+    match answer(alloc, request, files, &mut jobs, out, err) {
         Ok(status) => status,
         Err(fault) => report(alloc, &fault, err),
     }
@@ -171,13 +172,13 @@ fn explain<O: Sink, E: Sink>(alloc: Global, said: NoRequest, out: &mut O, err: &
     }
 }
 
-/// Does what is asked for, prints what answers it, and answers the exit status. A file of harts is read into `text`,
-/// since a fault names paths that stand in it.
+/// Does what is asked for, prints what answers it, and answers the exit status. The jobs of harts are put into `jobs`,
+/// since a fault names their paths.
 fn answer<'a, F: Files, O: Sink, E: Sink>(
     alloc: Global,
     request: Request<'a>,
     files: &mut F,
-    text: &'a mut String,
+    jobs: &'a mut Vec<FileJob>,
     out: &mut O,
     err: &mut E,
 ) -> Result<u8, Fault<'a>>
@@ -291,7 +292,7 @@ fn answer<'a, F: Files, O: Sink, E: Sink>(
             wrap_code(alloc, file, code, image, asked, files)?;
             Ok(DONE)
         }
-        Request::Harts { file } => print(out, run_file(alloc, file, text, files)),
+        Request::Harts { file } => print(out, run_file(alloc, file, jobs, files)),
         Request::Vectors {
             libraries,
             file,

@@ -1,97 +1,114 @@
 // Harts side by side, as a file says.
 
-ghost use Rattle.std.specs.Prelude.{◌≡◌, ◌≤◌, ◌++◌, Some, length, map, vec_len, IsTrue, IfOk, IfErr, OnOk};
+ghost use Rattle.std.specs.Prelude.{◌≡◌, ◌⊎◌, ◌≤◌, ◌++◌, ℕ, length, List, map, vec_len, IsTrue, IfOk, IfErr, OnOk};
 ghost use Rattle.std.specs.List.{AllZip};
 ghost use Rattle.std.specs.String.{string_bytes};
 ghost use Rattle.commands.specs.Answered.{Finds, IsRead};
-ghost use Rattle.commands.specs.Below.{hart_of, job_of, most_images, params_of};
+ghost use Rattle.commands.specs.Below.{hart_of, IsPlan, job_of, most_images, params_of};
 ghost use Rattle.commands.specs.Failures.{IsReadBy};
-ghost use Rattle.commands.specs.FileTexts.{NoWholeText};
-ghost use Rattle.commands.specs.Harts.{IsJobOf, SaysPlan, RefusesJobs, RefusesPlan};
+ghost use Rattle.commands.specs.Harts.{GivesPlan, IsJobOf, RefusesHart, RefusesHarts, RefusesJobs, RefusesPlan};
+ghost use Rattle.commands.specs.Harts.{SaysPlan};
 ghost use Rattle.commands.specs.HartsText.{behind, shown_text, ended_line, ended_text, ends_text, harts_text, is_well};
 ghost use Rattle.commands.specs.HartsText.{status_of_ends};
 ghost use Rattle.commands.specs.OutcomeText.{outcome_text};
+ghost use Rattle.commands.specs.Unread.{IsOutOfMemory};
 
 use crate::answer::{Answer, DONE, STOPPED};
 use crate::fault::{Fault, FileFault};
 use crate::files::Files;
 use crate::images::image_with_args;
 use crate::outcome;
-use crate::reading::bytes_of;
 use command_line::Request;
 use harts::{HartEnd, run_harts};
 use image::Image;
-use input_files::harts_file::{FileJob, read};
+use input_files::harts_file::{FileJob, HartsPlan, PlanFileFault, read};
 use language::{Args, Outcome};
 use listing::{lines_of, stop_line};
 use rv_machine::{HartObservation, ListHartRecorder, Stop};
 use std::alloc::{AllocError, Global};
 
-/// The text of a file, to its end.
-fn whole_text<'a, F: Files>(
+/// The plan that a file gives, which is read to its end.
+fn plan_of<'a, F: Files>(
     alloc: Global,
     file: &'a str,
     files: &mut F,
-) -> Result<String, Fault<'a>>
+) -> Result<HartsPlan, Fault<'a>>
     ensures said { IsTrue F.TELLS
-        → IfOk result (λ text. (F.store files.old).contents file.now ≡ Some (string_bytes text)) }
-    ensures refused { IsTrue F.TELLS → IfErr result (NoWholeText (F.store files.old).contents file.now) }
+        → IfOk result (λ plan. GivesPlan (F.store files.old).contents file.now (map hart_of plan.jobs.items)
+        plan.schedule.items) }
+    ensures refused { IsTrue F.TELLS → IfErr result (RefusesHarts (F.store files.old).contents file.now) }
     ensures calm { OnOk result (F.store files.new ≡ F.store files.old) }
     ensures counted { IfErr result (λ fault. IsReadBy fault (F.store files.old) (F.store files.new)) }
 {
-    let bytes = bytes_of(alloc, file, usize::MAX, files)?;
-    match String::from_utf8(bytes) {
-        Ok(text) => Ok(text),
-        Err(_) => Err(Fault::File(FileFault::NotUtf8(file))),
+    let Ok(mut source) = files.open(file) else {
+        return Err(Fault::File(FileFault::CannotRead(file)));
+    };
+    let plan = read(alloc, &mut source);
+    files.close(source);
+    match plan {
+        Ok(plan) => Ok(plan),
+        Err(PlanFileFault::Read) => Err(Fault::File(FileFault::CannotRead(file))),
+        Err(PlanFileFault::NotUtf8) => Err(Fault::File(FileFault::NotUtf8(file))),
+        Err(PlanFileFault::Plan(why)) => Err(Fault::Plan(why)),
     }
 }
 
 /// Runs the harts that a file says: what an observer sees of them and how each ended, as lines, and the exit status.
-/// The file is read into `text`.
+/// Their jobs are put into `jobs`.
 pub fn run_file<'a, F: Files>(
     alloc: Global,
     file: &'a str,
-    text: &'a mut String,
+    jobs: &'a mut Vec<FileJob>,
     files: &mut F,
 ) -> Result<Answer, Fault<'a>>
     ensures finds { IsTrue F.TELLS → Finds (Request.Harts file.entry) (F.store files.old).contents result }
     ensures read { IsRead result (F.store files.old) (F.store files.new) }
 {
-    *text = whole_text(alloc, file, files)?;
-    run_side_by_side(alloc, text.as_str(), files)
+    let plan = plan_of(alloc, file, files)?;
+    *jobs = plan.jobs;
+    run_side_by_side(alloc, jobs.as_slice(), plan.schedule.as_slice(), files)
 }
 
-/// Runs the harts of a file with this text: what an observer sees of each step and how each hart ended, as lines, and
-/// the exit status. They are refused by the first faulty line, by the first hart whose image or arguments are faulty,
-/// or by what `run_harts` refuses.
+/// Runs harts by this schedule: what an observer sees of each step and how each hart ended, as lines, and the exit
+/// status. They are refused by the first hart whose image or arguments are faulty, or by what `run_harts` refuses.
 fn run_side_by_side<'a, F: Files>(
     alloc: Global,
-    text: &'a str,
+    named: &'a [FileJob],
+    schedule: &[u8],
     files: &mut F,
 ) -> Result<Answer, Fault<'a>>
-    ensures said { IsTrue F.TELLS
-        → IfOk result (λ said. SaysPlan (F.store files.old).contents text.now said.text.items said.status) }
-    ensures refused { IsTrue F.TELLS → IfErr result (RefusesPlan (F.store files.old).contents text.now) }
+    requires { length named.now ≤ most_images }
+    ensures said { IsTrue F.TELLS → IfOk result (λ said. (plan : List ℕ)
+        → IsPlan plan (map hart_of named.now) schedule.now
+        → SaysPlan (F.store files.old).contents plan said.text.items said.status) }
+    ensures refused { IsTrue F.TELLS → IfErr result (λ fault. (plan : List ℕ)
+        → IsPlan plan (map hart_of named.now) schedule.now
+        → RefusesPlan (F.store files.old).contents plan fault) }
     ensures read { IsRead result (F.store files.old) (F.store files.new) }
 {
-    let plan = read(alloc, text)?;
-    let jobs = load_jobs(alloc, plan.jobs.as_slice(), files)?;
+    let jobs = load_jobs(alloc, named, files)?;
     let mut recorder = ListHartRecorder::new(alloc);
-    let ends = run_harts(
-        alloc,
-        jobs.as_slice(),
-        plan.schedule.as_slice(),
-        &mut recorder,
-    )?;
+    let ends = run_harts(alloc, jobs.as_slice(), schedule, &mut recorder)?;
     let text = list_harts(alloc, jobs.as_slice(), recorder.list(), ends.as_slice())?;
     let status = status_of(ends.as_slice());
     Ok(Answer { text, status })
 }
 
+/// Texts, lent.
+fn lent<'a>(alloc: Global, texts: &'a [String]) -> Result<Vec<&'a str>, AllocError>
+    ensures { IfOk result (λ lent. map (λ text. text.now) lent.items ≡ map string_bytes texts.now) }
+{
+    let mut lent = Vec::new(alloc);
+    'texts: for text in texts {
+        lent.push(text.as_str())?;
+    }
+    Ok(lent)
+}
+
 /// The images of harts and their arguments, hart by hart, or the fault of the first hart that has one.
 fn load_jobs<'a, F: Files>(
     alloc: Global,
-    jobs: &[FileJob<'a>],
+    jobs: &'a [FileJob],
     files: &mut F,
 ) -> Result<Vec<(Image, Args)>, Fault<'a>>
     ensures count { IfOk result (λ loaded. vec_len loaded ≡ length jobs.now) }
@@ -103,10 +120,27 @@ fn load_jobs<'a, F: Files>(
 {
     let mut loaded = Vec::new(alloc);
     for job in jobs {
-        let (image, _, args) = image_with_args(alloc, job.path, job.arguments.as_slice(), files)?;
+        let (image, args) = load_job(alloc, job, files)?;
         loaded.push((image, args))?;
     }
     Ok(loaded)
+}
+
+/// The image of a hart and its arguments.
+fn load_job<'a, F: Files>(
+    alloc: Global,
+    job: &'a FileJob,
+    files: &mut F,
+) -> Result<(Image, Args), Fault<'a>>
+    ensures said { IsTrue F.TELLS
+        → IfOk result (λ loaded. IsJobOf (F.store files.old).contents (hart_of job.now) (job_of loaded)) }
+    ensures refused { IsTrue F.TELLS → IfErr result (λ fault.
+        RefusesHart (F.store files.old).contents (hart_of job.now) fault ⊎ IsOutOfMemory fault) }
+    ensures read { IsRead result (F.store files.old) (F.store files.new) }
+{
+    let words = lent(alloc, job.arguments.as_slice())?;
+    let (image, _, args) = image_with_args(alloc, job.path.as_str(), words.as_slice(), files)?;
+    Ok((image, args))
 }
 
 /// The lines of what steps showed, in their order, and then those of how each hart ended.

@@ -2,7 +2,7 @@
 use Rattle.std.proofs.Common.{refl, ◌∙◌, arith}
 use Rattle.language.proofs.Handed.{handed_on, converted_on}
 use Rattle.commands.proofs.AnswerLemmas.{read_fault, read_memory}
-use Rattle.commands.proofs.HartLemmas.{one_job_more, job_from, job_refused, spelled_by}
+use Rattle.commands.proofs.HartLemmas.{one_job_more, job_refused}
 use Rattle.commands.specs.Harts.{jobs_want_memory}
 use Rattle.commands.proofs.side_by_side.load_jobs.Goals as goal
 
@@ -11,14 +11,10 @@ loop-job-preserved g c = record {
   count = omega (arith, c.in_ok-push.ensures.len);
   same = c.in_ok-image.ensures.read ∙ c.loop-job.invariant.same;
   said = λ tells.
-      let texts = c.as_slice.result.now in
       one_job_more (g.F.Files.store c.args.files.now).contents c.args.jobs.now c.loop-job.job-index c.job-item.result
       c.loop-job.loaded.items c.push.new.self.items c.in_ok-image.image c.in_ok-image.args c.loop-job-test.true
       c.job-item.is c.in_ok-push.ensures.items
-      (job_from (g.F.Files.store c.args.files.now).contents c.job-item.result c.in_ok-image.image c.in_ok-image.args
       (rw c.loop-job.invariant.same at (c.in_ok-image.ensures.said tells))
-      (spelled_by texts c.job-item.result.arguments.items (λ text. text.now) c.as_slice.ensures.value
-      c.in_ok-image.ensures.spelled))
       (c.loop-job.invariant.said tells);
 }
 
@@ -26,8 +22,8 @@ pub returns-in_err-image-clause-refused : goal.returns-in_err-image-clause-refus
 returns-in_err-image-clause-refused g c = λ tells.
     handed_on _ _ c.from_residual.ensures.1
     (job_refused (g.F.Files.store c.args.files.now).contents c.args.jobs.now c.loop-job.job-index c.job-item.result
-    c.loop-job.loaded.items c.as_slice.result.now _ c.loop-job-test.true c.job-item.is (c.loop-job.invariant.said tells)
-    c.as_slice.ensures.value (rw c.loop-job.invariant.same at (c.in_err-image.ensures.refused tells)))
+    c.loop-job.loaded.items _ c.loop-job-test.true c.job-item.is (c.loop-job.invariant.said tells)
+    (rw c.loop-job.invariant.same at (c.in_err-image.ensures.refused tells)))
 
 pub returns-in_err-push-clause-refused : goal.returns-in_err-push-clause-refused
 returns-in_err-push-clause-refused g c = λ tells.
