@@ -4,7 +4,6 @@ use Rattle.std.proofs.Common.{get_or, Bor, Result, Ok, Err, Some, append_assoc, 
 use Rattle.std.proofs.Common.{subst, arith}
 use Rattle.std.specs.List.{AllZip}
 use Rattle.std.specs.Result.{IfOk, IfErr}
-use Rattle.std.specs.Str.{IsUtf8}
 use Rattle.std.specs.String.{string_bytes}
 use Rattle.std.proofs.lemmas.List.{take_more, take-append-drop, map-append, length-take, take_all}
 use Rattle.commands.specs.Below.{Arg, cut_short, Fields, hart_of, HartEnd, HartObservation, HartsFault}
@@ -146,11 +145,7 @@ job_refused files named i job loaded fault low is all (inl why) =
     refused_at files named i job loaded fault low is all why
 job_refused files named i job loaded fault low is all (inr memory) = jobs_want_memory memory
 
--- a file that gives a plan, and one that gives none
-pub plan_given : {files : Contents} {path plan : List ℕ} {harts : List PlannedHart} {schedule : List ℕ}
-    → files path ≡ Some plan → IsUtf8 plan × IsPlan plan harts schedule → GivesPlan files path harts schedule
-plan_given {plan = plan} held given = record { plan = plan; held = held; is_text = given.0; gives = given.1 }
-
+-- a file that gives no plan
 pub plan_refused : (files : Contents) (path plan : List ℕ) (why : PlanFault) → files path ≡ Some plan
     → IsFileFault plan (Plan why) → RefusesHarts files path (faults.Plan why)
 plan_refused files path plan (Line rule line) held faulty = by_plan held faulty.0 (by_line faulty.1)

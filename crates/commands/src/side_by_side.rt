@@ -47,9 +47,11 @@ fn plan_of<'a, F: Files>(
     files.close(source);
     match plan {
         Ok(plan) => Ok(plan),
-        Err(PlanFileFault::Read) => Err(Fault::File(FileFault::CannotRead(file))),
-        Err(PlanFileFault::NotUtf8) => Err(Fault::File(FileFault::NotUtf8(file))),
-        Err(PlanFileFault::Plan(why)) => Err(Fault::Plan(why)),
+        Err(fault) => Err(match fault {
+            PlanFileFault::Read => Fault::File(FileFault::CannotRead(file)),
+            PlanFileFault::NotUtf8 => Fault::File(FileFault::NotUtf8(file)),
+            PlanFileFault::Plan(why) => Fault::Plan(why),
+        }),
     }
 }
 

@@ -8,4 +8,7 @@ returns-in-Ok-clause-commanded g c = λ files out err.
     (c.perform.ensures.performed files out err)
 
 pub returns-clause-commanded : goal.returns-clause-commanded
-returns-clause-commanded g c = λ files out err. said refl (c.explain.ensures.told out err)
+returns-clause-commanded g c = λ files out err. said refl (c.explain-in-Err.ensures.told out err)
+
+pub returns-in-Some-clause-commanded : goal.returns-in-Some-clause-commanded
+returns-in-Some-clause-commanded g c = λ files out err. said refl (c.explain.ensures.told out err)
