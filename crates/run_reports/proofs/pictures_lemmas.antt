@@ -1,4 +1,5 @@
 pub mod Depicted
 pub mod Filled
 pub mod Painted
+pub mod Reported
 pub mod Sizes

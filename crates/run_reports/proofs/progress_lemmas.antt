@@ -1,3 +1,4 @@
+pub mod Followed
 pub mod KnownPieces
 pub mod Pieces
 pub mod Together

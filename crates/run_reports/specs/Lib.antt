@@ -5,7 +5,7 @@
 -- origins: Origins has where what is unknown of registers comes from, Traced the same along a certified run, Reading
 --   and Stepped how the code follows it.
 -- pictures: Page has the page, Grid its columns and rows, Marks what stands in them, Constants its fixed text, Pictured
---   which page is the picture of two runs.
+--   which page is the picture of two runs, Telling what goes out while it is made.
 pub mod run_places
 pub mod progress
 pub mod origins

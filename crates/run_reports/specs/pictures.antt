@@ -5,5 +5,6 @@ pub mod Hover
 pub mod Page
 pub mod Parting
 pub mod Pictured
+pub mod Telling
 pub mod Titles
 pub mod private

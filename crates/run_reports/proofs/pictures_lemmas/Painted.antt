@@ -1,5 +1,5 @@
 -- What runs show from a later state on, and what they show from the first on.
-use Rattle.std.proofs.Common.{◌≡◌, ℕ, ◌+◌, ◌≤◌, ◌<◌, List, [], ◌∷◌, ◌++◌, true, Option, Some, None, is_some, length}
+use Rattle.std.proofs.Common.{◌≡◌, ℕ, ◌+◌, List, [], ◌∷◌, ◌++◌, true, Option, Some, None, is_some, length}
 use Rattle.std.proofs.Common.{length-append, append_assoc, append-nil, refl, sym, ap, ◌∙◌, arith}
 use Rattle.std.proofs.lemmas.Option.{none-some}
 use Rattle.run_reports.specs.Below.{Budget, entries_of, events_of, MachineCode, followed_by, IsShown, Observation, spent}
@@ -19,15 +19,6 @@ use Rattle.run_reports.specs.declared.pictures.cells.RunLength.{RunLength}
 pub some_shown : (o : Option Observation) → is_some o ≡ true → o ≡ None → ⊥
 some_shown None is none = cc
 some_shown (Some o) is none = none-some o (sym none)
-
--- a step of both of which one at least shows something leaves fewer
-pub fewer_left : (one other : Option Observation) {n k n' k' : ℕ} → (is_some one ≡ true → k < n)
-    → (is_some other ≡ true → k' < n')
-    → (one ≡ None → k ≡ 0) → (other ≡ None → k' ≡ 0) → ((one ≡ None) × (other ≡ None) → ⊥) → 1 + k + k' ≤ n + n'
-fewer_left (Some o) (Some p) fewer fewer' none none' some = omega (arith, fewer refl, fewer' refl)
-fewer_left (Some o) None fewer fewer' none none' some = omega (arith, fewer refl, none' refl)
-fewer_left None (Some p) fewer fewer' none none' some = omega (arith, none refl, fewer' refl)
-fewer_left None None fewer fewer' none none' some = absurd (some (refl, refl))
 
 -- where no steps are left, nothing is shown
 ended_shows : {code : MachineCode} {n : ℕ} {s : State} {seen : List Observation} → n ≡ 0 → IsShown code n s seen

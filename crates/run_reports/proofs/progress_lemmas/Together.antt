@@ -36,7 +36,7 @@ leads_all (further {seen = seen} {o = o} all step) more =
 -- On the way of a run that goes on, each step is one of its own.
 
 -- the next step is the run's
-step_along : {code : MachineCode} {m n j : ℕ} {s t u : State} {last : Option Observation} {rest : List Observation}
+pub step_along : {code : MachineCode} {m n j : ℕ} {s t u : State} {last : Option Observation} {rest : List Observation}
     → MakesProgress code m s last n t → Leads code j s rest u → 0 < m → 0 < j
     → (o : Observation) × (more : List Observation) × (i : ℕ) × (last ≡ Some o) × (rest ≡ o ∷ more) × (j ≡ suc i)
     × Leads code i t more u × (n + 1 ≡ m)

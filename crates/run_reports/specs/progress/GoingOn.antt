@@ -14,6 +14,10 @@ BothGoOn code budget s s' steps =
     (steps < budget)
     × ((seen : List Observation) × (t t' : State) × Leads code steps s seen t × Leads code steps s' seen t')
 
+-- so many steps are made from one of two states at least, each with a budget of its own
+abbrev pub OneGoesOn : MachineCode → ℕ → State → ℕ → State → ℕ → Type 0
+OneGoesOn code budget s budget' s' steps = GoesOn code budget s steps ⊎ GoesOn code budget' s' steps
+
 -- a run reaches so many lines: it goes on after as many times so many steps, or there is no line
 abbrev pub Reaches : (ℕ → Type 0) → ℕ → Type 0
 Reaches GoesOnAfter count = (count ≡ 0) ⊎ GoesOnAfter (count * steps_a_line)

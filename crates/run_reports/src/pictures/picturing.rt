@@ -1,8 +1,10 @@
 // The picture of two runs.
 
-ghost use Rattle.std.specs.Prelude.{◌≡◌, ◌^◌, ◌<◌, ◌≤◌, ◌+◌, ◌*◌, length, IfOk};
-ghost use Rattle.run_reports.specs.Below.{code_of, state_of};
+ghost use Rattle.std.specs.Prelude.{◌≡◌, ◌^◌, ◌<◌, ◌≤◌, ◌+◌, ◌*◌, length, IfOk, IsTrue, OnErr, OnOk};
+ghost use Rattle.run_reports.specs.Below.{code_of, collected, state_of};
 ghost use Rattle.run_reports.specs.pictures.Pictured.{IsPicture};
+ghost use Rattle.run_reports.specs.pictures.Telling.{PictureTells};
+ghost use Rattle.run_reports.specs.progress.GoingOn.{HasLines, Reaches};
 
 use crate::pictures::cells::{Area, Axes, Told};
 use crate::pictures::grid::Grid;
@@ -10,6 +12,7 @@ use crate::pictures::page::page;
 use crate::pictures::painting::{length_of, paint};
 use rv_machine::{CodeRegion, Memory, Running};
 use std::alloc::{AllocError, Global};
+use streams::Sink;
 
 /// Two runs that have not begun yet.
 #[derive(Drop)]
@@ -30,13 +33,15 @@ pub struct Drawing<'a> {
 }
 
 /// The page of two runs of the same code. Each run is made twice, from one state: once to count its steps, and once to
-/// draw them. Memory is taken for cells and page alone, however many steps the runs make.
-pub fn picture<M: Memory>(
+/// draw them, and each time lines of progress go out. Memory is taken for cells and page alone, however many steps the
+/// runs make.
+pub fn picture<M: Memory, E: Sink>(
     alloc: Global,
     code: &CodeRegion,
     counted: &mut PairOfRuns<M>,
     drawn: &mut PairOfRuns<M>,
     drawing: &Drawing<'_>,
+    err: &mut E,
 ) -> Result<Vec<u8>, AllocError>
     requires few { (drawn.old.one.steps_left < 2 ^ 63) × (drawn.old.other.steps_left < 2 ^ 63) }
     requires steps { (counted.old.one.steps_left ≡ drawn.old.one.steps_left)
@@ -52,16 +57,31 @@ pub fn picture<M: Memory>(
         page.items) }
     ensures small { IfOk result (λ page.
         length page.items ≤ 20_000_000 + length drawing.now.said.now + 12 * length drawing.now.asked.now) }
+    ensures told { IsTrue E.TELLS → OnOk result (PictureTells HasLines (code_of code.now)
+        drawn.old.one.steps_left (state_of drawn.old.one.hart (M.bytes drawn.old.one.memory))
+        drawn.old.other.steps_left (state_of drawn.old.other.hart (M.bytes drawn.old.other.memory))
+        (collected (E.taken err.old) (E.failures err.old)) (collected (E.taken err.new) (E.failures err.new))) }
+    ensures part { IsTrue E.TELLS → OnErr result (PictureTells Reaches (code_of code.now)
+        drawn.old.one.steps_left (state_of drawn.old.one.hart (M.bytes drawn.old.one.memory))
+        drawn.old.other.steps_left (state_of drawn.old.other.hart (M.bytes drawn.old.other.memory))
+        (collected (E.taken err.old) (E.failures err.old)) (collected (E.taken err.new) (E.failures err.new))) }
 {
-    let one = length_of(alloc, code, &mut counted.one);
-    let other = length_of(alloc, code, &mut counted.other);
+    let one = length_of(alloc, code, &mut counted.one, err);
+    let other = length_of(alloc, code, &mut counted.other, err);
     let axes = Axes {
         steps: one.steps.max(other.steps),
         code: drawing.code,
         frame: drawing.frame,
     };
     let mut grid = Grid::new(alloc, axes)?;
-    let parting = paint(alloc, code, &mut drawn.one, &mut drawn.other, &mut grid);
+    let parting = paint(
+        alloc,
+        code,
+        &mut drawn.one,
+        &mut drawn.other,
+        &mut grid,
+        err,
+    );
     let told = Told {
         are_two: drawing.are_two,
         one,
