@@ -23,8 +23,11 @@ pub use Rattle.certified_runs.specs.declared.certifying.CertifiedEnd.{CertifiedE
 pub use Rattle.certified_runs.specs.declared.certifying.CertifiedEnd.TheVariants.{MayDiffer, Same}
 pub use Rattle.certified_runs.specs.declared.shifts.Shifts.{Shifts}
 pub use Rattle.certified_runs.specs.declared.shifts.Shifts.TheVariants.{Hidden, Seen}
+pub use Rattle.streams.specs.Puts.{collected}
+pub use Rattle.streams.specs.Streams.{Collected}
+pub use Rattle.run_reports.specs.pictures.Telling.{PictureTells}
 pub use Rattle.run_reports.specs.progress.Certified.{GoesOnKnown}
-pub use Rattle.run_reports.specs.progress.GoingOn.{Counting, HasLines, IsTold}
+pub use Rattle.run_reports.specs.progress.GoingOn.{Counting, HasLines, IsTold, Reaches}
 pub use Rattle.run_reports.specs.run_places.Places.{IsLastBefore, ShowsFewer}
 pub use Rattle.run_reports.specs.run_places.Reads.{SaysRegisters}
 pub use Rattle.run_reports.specs.run_places.Shown.{ShowsAt}

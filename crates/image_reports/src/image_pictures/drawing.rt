@@ -1,11 +1,12 @@
 // An image's runs, loaded and drawn.
 
-ghost use Rattle.std.specs.Prelude.{◌≡◌, None, IfOk};
-ghost use Rattle.image_reports.specs.Below.{AreWithin, code_base, frame_base, IsImage, loaded_at, paged_bytes};
-ghost use Rattle.image_reports.specs.Below.{params_of, state_of};
+ghost use Rattle.std.specs.Prelude.{◌≡◌, None, IfOk, IsTrue, OnErr, OnOk};
+ghost use Rattle.image_reports.specs.Below.{AreWithin, code_base, collected, frame_base, HasLines, IsImage, loaded_at};
+ghost use Rattle.image_reports.specs.Below.{paged_bytes, params_of, Reaches, state_of};
 ghost use Rattle.image_reports.specs.certificates.Given.{fault_of_given};
 ghost use Rattle.image_reports.specs.certificates.KnownImage.{known_at};
 ghost use Rattle.image_reports.specs.image_pictures.Drawn.{BeginsAt, DrawsImage, DrawsOne, DrawsTwo};
+ghost use Rattle.image_reports.specs.image_pictures.Telling.{TellsImage, TellsOne, TellsTwo};
 
 use crate::certificates::{Shifts, load_given};
 use hepurita::{CODE_BASE, FRAME_BASE, code, load};
@@ -14,62 +15,79 @@ use language::{Arg, Args};
 use run_reports::pictures::{Area, Drawing, PairOfRuns, picture};
 use rv_machine::PagedMemory;
 use std::alloc::{AllocError, Global};
+use streams::Sink;
 
-/// What a page says of its runs: what was asked for, what is said of them, and whether they are two, or one in both
-/// places.
+/// What a page says of its runs: what was asked for, and what is said of them, which stands on the page as it is.
 #[derive(Clone, Copy)]
-struct Caption<'a> {
-    asked: &'a str,
-    said: &'a [u8],
+pub struct Caption<'a> {
+    pub asked: &'a str,
+    pub said: &'a [u8],
+}
+
+/// Two runs of an image, or one in both places, each loaded twice: to be counted, and to be drawn.
+#[derive(Drop)]
+struct LoadedRuns {
+    counted: PairOfRuns<PagedMemory>,
+    drawn: PairOfRuns<PagedMemory>,
     are_two: bool,
 }
 
-/// The page of the one run of an image in which 0 stands for each argument that is not given, with what was asked for
-/// and with this said of it. The arguments that are given have no fault.
-pub fn picture_of_given(
+/// The page of the one run of an image in which 0 stands for each argument that is not given, with this caption. The
+/// arguments that are given have no fault. Lines of progress go out while the runs are counted and drawn.
+pub fn picture_of_given<E: Sink>(
     alloc: Global,
     image: &Image,
     given: &[Option<Arg>],
-    asked: &str,
-    said: &[u8],
+    caption: &Caption<'_>,
+    err: &mut E,
 ) -> Result<Vec<u8>, AllocError>
     requires allowed { IsImage image.now }
     requires faultless { fault_of_given (params_of image.now) given.now ≡ None }
-    ensures exact { IfOk result (λ page. DrawsOne image.now given.now asked.now said.now page.items) }
+    ensures exact { IfOk result (λ page.
+        DrawsOne image.now given.now caption.now.asked.now caption.now.said.now page.items) }
+    ensures told { IsTrue E.TELLS → OnOk result (TellsOne HasLines image.now given.now
+        (collected (E.taken err.old) (E.failures err.old)) (collected (E.taken err.new) (E.failures err.new))) }
+    ensures part { IsTrue E.TELLS → OnErr result (TellsOne Reaches image.now given.now
+        (collected (E.taken err.old) (E.failures err.old)) (collected (E.taken err.new) (E.failures err.new))) }
 {
-    let mut counted = both_of_given(alloc, image, given)?;
-    let mut drawn = both_of_given(alloc, image, given)?;
-    let caption = Caption {
-        asked,
-        said,
+    let counted = both_of_given(alloc, image, given)?;
+    let drawn = both_of_given(alloc, image, given)?;
+    let mut runs = LoadedRuns {
+        counted,
+        drawn,
         are_two: false,
     };
-    draw(alloc, image, &mut counted, &mut drawn, &caption)
+    draw(alloc, image, &mut runs, caption, err)
 }
 
-/// The page of two runs of an image over each other, on two lists of arguments within its parameter types, with what
-/// was asked for and with this said of them.
-pub fn picture_of_pair(
+/// The page of two runs of an image over each other, on two lists of arguments within its parameter types, with this
+/// caption. Lines of progress go out while the runs are counted and drawn.
+pub fn picture_of_pair<E: Sink>(
     alloc: Global,
     image: &Image,
     one: &Args,
     other: &Args,
-    asked: &str,
-    said: &[u8],
+    caption: &Caption<'_>,
+    err: &mut E,
 ) -> Result<Vec<u8>, AllocError>
     requires allowed { IsImage image.now }
     requires one { AreWithin (params_of image.now) one.now }
     requires other { AreWithin (params_of image.now) other.now }
-    ensures exact { IfOk result (λ page. DrawsTwo image.now one.now other.now asked.now said.now page.items) }
+    ensures exact { IfOk result (λ page.
+        DrawsTwo image.now one.now other.now caption.now.asked.now caption.now.said.now page.items) }
+    ensures told { IsTrue E.TELLS → OnOk result (TellsTwo HasLines image.now one.now other.now
+        (collected (E.taken err.old) (E.failures err.old)) (collected (E.taken err.new) (E.failures err.new))) }
+    ensures part { IsTrue E.TELLS → OnErr result (TellsTwo Reaches image.now one.now other.now
+        (collected (E.taken err.old) (E.failures err.old)) (collected (E.taken err.new) (E.failures err.new))) }
 {
-    let mut counted = both_of_args(alloc, image, one, other)?;
-    let mut drawn = both_of_args(alloc, image, one, other)?;
-    let caption = Caption {
-        asked,
-        said,
+    let counted = both_of_args(alloc, image, one, other)?;
+    let drawn = both_of_args(alloc, image, one, other)?;
+    let mut runs = LoadedRuns {
+        counted,
+        drawn,
         are_two: true,
     };
-    draw(alloc, image, &mut counted, &mut drawn, &caption)
+    draw(alloc, image, &mut runs, caption, err)
 }
 
 /// The run with zeros for what is not given, twice.
@@ -110,25 +128,35 @@ fn both_of_args(
     Ok(PairOfRuns { one, other })
 }
 
-/// The page of two runs of an image, each loaded twice, or of one in both places.
-fn draw(
+/// The page of runs that are loaded.
+fn draw<E: Sink>(
     alloc: Global,
     image: &Image,
-    counted: &mut PairOfRuns<PagedMemory>,
-    drawn: &mut PairOfRuns<PagedMemory>,
+    runs: &mut LoadedRuns,
     caption: &Caption<'_>,
+    err: &mut E,
 ) -> Result<Vec<u8>, AllocError>
     requires allowed { IsImage image.now }
-    requires one { BeginsAt image.now (state_of drawn.old.one.hart (paged_bytes drawn.old.one.memory))
-        (state_of counted.old.one.hart (paged_bytes counted.old.one.memory)) counted.old.one.steps_left }
-    requires other { BeginsAt image.now (state_of drawn.old.other.hart (paged_bytes drawn.old.other.memory))
-        (state_of counted.old.other.hart (paged_bytes counted.old.other.memory)) counted.old.other.steps_left }
-    requires one_steps { drawn.old.one.steps_left ≡ image.now.max_steps }
-    requires other_steps { drawn.old.other.steps_left ≡ image.now.max_steps }
-    ensures { IfOk result (λ page. DrawsImage image.now
-        (state_of drawn.old.one.hart (paged_bytes drawn.old.one.memory))
-        (state_of drawn.old.other.hart (paged_bytes drawn.old.other.memory))
-        caption.now.asked.now caption.now.said.now caption.now.are_two page.items) }
+    requires one { BeginsAt image.now (state_of runs.old.drawn.one.hart (paged_bytes runs.old.drawn.one.memory))
+        (state_of runs.old.counted.one.hart (paged_bytes runs.old.counted.one.memory))
+        runs.old.counted.one.steps_left }
+    requires other { BeginsAt image.now (state_of runs.old.drawn.other.hart (paged_bytes runs.old.drawn.other.memory))
+        (state_of runs.old.counted.other.hart (paged_bytes runs.old.counted.other.memory))
+        runs.old.counted.other.steps_left }
+    requires one_steps { runs.old.drawn.one.steps_left ≡ image.now.max_steps }
+    requires other_steps { runs.old.drawn.other.steps_left ≡ image.now.max_steps }
+    ensures exact { IfOk result (λ page. DrawsImage image.now
+        (state_of runs.old.drawn.one.hart (paged_bytes runs.old.drawn.one.memory))
+        (state_of runs.old.drawn.other.hart (paged_bytes runs.old.drawn.other.memory))
+        caption.now.asked.now caption.now.said.now runs.old.are_two page.items) }
+    ensures told { IsTrue E.TELLS → OnOk result (TellsImage HasLines image.now
+        (state_of runs.old.drawn.one.hart (paged_bytes runs.old.drawn.one.memory))
+        (state_of runs.old.drawn.other.hart (paged_bytes runs.old.drawn.other.memory))
+        (collected (E.taken err.old) (E.failures err.old)) (collected (E.taken err.new) (E.failures err.new))) }
+    ensures part { IsTrue E.TELLS → OnErr result (TellsImage Reaches image.now
+        (state_of runs.old.drawn.one.hart (paged_bytes runs.old.drawn.one.memory))
+        (state_of runs.old.drawn.other.hart (paged_bytes runs.old.drawn.other.memory))
+        (collected (E.taken err.old) (E.failures err.old)) (collected (E.taken err.new) (E.failures err.new))) }
 {
     let code = code(alloc, image)?;
     let drawing = Drawing {
@@ -142,7 +170,14 @@ fn draw(
         },
         asked: caption.asked,
         said: caption.said,
-        are_two: caption.are_two,
+        are_two: runs.are_two,
     };
-    picture(alloc, &code, counted, drawn, &drawing)
+    picture(
+        alloc,
+        &code,
+        &mut runs.counted,
+        &mut runs.drawn,
+        &drawing,
+        err,
+    )
 }
