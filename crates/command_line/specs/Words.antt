@@ -52,7 +52,7 @@ arguments_of (Run image arguments options) = Some (map (λ word. word.now) argum
 arguments_of (Leak image arguments) = Some (map (λ word. word.now) arguments.now)
 arguments_of (Pair image arguments options) = Some (map (λ word. word.now) arguments.now)
 arguments_of (Certify image arguments options) = Some (map (λ word. word.now) arguments.now)
-arguments_of (Picture image arguments) = Some (map (λ word. word.now) arguments.now)
+arguments_of (Picture image arguments progress) = Some (map (λ word. word.now) arguments.now)
 arguments_of request = None
 
 -- no path that is written to is one that is read or another that is written to, as both are given

@@ -115,6 +115,7 @@ fn request_with<'a>(
         "picture" => Some(Request::Picture {
             image: text_of(given, "IMAGE"),
             arguments,
+            progress: given.get_flag("progress"),
         }),
         _ => None,
     }

@@ -252,6 +252,11 @@ pub(crate) static COMMANDS: [CommandRow; 15] = [
                 addresses upwards",
         words: &[
             CommandWord::Path("IMAGE", "An image that `build` or `wrap` wrote"),
+            CommandWord::Flag(
+                "progress",
+                "Prints a line to standard error after each 134217728 steps of each pass over the runs, as long as it \
+                 goes on; must come before IMAGE",
+            ),
             CommandWord::Arguments(
                 "As for `certify`, for a picture of one run, with 0 for each `?`; or as for `pair`, for a picture of \
                  two runs, one over the other",

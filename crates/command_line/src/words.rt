@@ -79,6 +79,7 @@ pub enum Request<'a> {
     Picture {
         image: &'a str,
         arguments: &'a [&'a str],
+        progress: bool,
     },
     List {
         image: &'a str,

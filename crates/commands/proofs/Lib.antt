@@ -12,6 +12,7 @@ mod FunctionFaults
 pub mod StreamCounts
 mod MeasuringLemmas
 mod PictureLemmas
+mod PictureProgress
 mod ProgressLemmas
 mod StepLemmas
 mod RunLines

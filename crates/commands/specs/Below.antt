@@ -86,6 +86,7 @@ pub use Rattle.image_reports.specs.certificates.Certified.{Certified, certified}
 pub use Rattle.image_reports.specs.certificates.Given.{fault_of_given}
 pub use Rattle.image_reports.specs.certificates.Texts.{fault_of_given_texts, numbers_given}
 pub use Rattle.image_reports.specs.image_pictures.Drawn.{DrawsOne, DrawsTwo}
+pub use Rattle.image_reports.specs.image_pictures.Telling.{TellsOne, TellsTwo}
 pub use Rattle.image_reports.specs.image_statistics.ImageText.{BeginsOtherwise, IsFaultOf, SaysFields}
 pub use Rattle.image_reports.specs.source_places.Placed.{at_line, IsStanding, numbered_of, placed, standing_text}
 pub use Rattle.image_reports.specs.source_statistics.SourceText.{SaysCosts}

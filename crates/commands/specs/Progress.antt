@@ -1,11 +1,11 @@
 -- What goes out on standard error while an image or a function runs, where that is asked for: a line behind each so
 -- many steps after which the run goes on; and of a run once it has stopped the line of its steps.
-use Rattle.std.specs.Prelude.{◌≡◌, ℕ, Bool, true, false, List, map, Option}
+use Rattle.std.specs.Prelude.{◌≡◌, ℕ, ◌==◌, Bool, true, false, List, length, map, Option}
 use Rattle.image_reports.specs.certificates.KnownImage.{known_at}
 use Rattle.commands.specs.Below.{Arg, AskedRun, AskedWords, AsksFor, BothGoOn, code_at, code_base, Collected}
 use Rattle.commands.specs.Below.{Counting, Executable, Fields}
-use Rattle.commands.specs.Below.{frame_base, GoesOn, image_program, IsTold, known_at_start, loaded_at, machine_program}
-use Rattle.commands.specs.Below.{params_of, RunOptions, Shifts}
+use Rattle.commands.specs.Below.{frame_base, GoesOn, Hidden, image_program, IsTold, known_at_start, loaded_at}
+use Rattle.commands.specs.Below.{machine_program, params_of, RunOptions, Shifts, TellsOne, TellsTwo}
 use Rattle.command_line.specs.declared.options.StepOptions.{StepOptions}
 use Rattle.command_line.specs.declared.words.Request.{Request}
 use Rattle.command_line.specs.declared.words.Request.TheVariants as requests
@@ -84,6 +84,32 @@ FileFunctionTells Has true options files path words before after =
     (program : Executable) × (asked : AskedRun) × HoldsExecutable files path program × AsksFor words asked
     × IsTold Has (FunctionGoesOn program asked options) before after
 
+-- of what is made for the picture of one list of arguments that the words give: of the certified run, and then of the
+-- drawing
+abbrev pub OneListTells : Counting → Fields → List (List ℕ) → Collected → Collected → Type 0
+OneListTells Has image words before after =
+    (given : List (Option Arg)) × (certified : Collected) × AreGiven (params_of image) words given
+    × IsTold Has (CertificateGoesOn image given Hidden) before certified × TellsOne Has image given certified after
+
+-- and of two lists that they spell: of the comparison of their runs, and then of the drawing
+abbrev pub TwoListsTell : Counting → Fields → List (List ℕ) → Collected → Collected → Type 0
+TwoListsTell Has image words before after =
+    (one other : List Arg) × (compared : Collected) × AreBothSpelled (params_of image) words one other
+    × IsTold Has (PairGoesOn image one other) before compared × TellsTwo Has image one other compared after
+
+-- as many words as parameters are one list, and others two
+pub data ListsTell (Has : Counting) (image : Fields) (words : List (List ℕ)) (before after : Collected) : Type 0 where
+  one_tells : (length words == length (params_of image)) ≡ true → OneListTells Has image words before after
+      → ListsTell Has image words before after
+  two_tell : (length words == length (params_of image)) ≡ false → TwoListsTell Has image words before after
+      → ListsTell Has image words before after
+
+-- of what is made for the picture of the file's image
+abbrev pub FilePictureTells : Counting → Bool → Contents → List ℕ → List (List ℕ) → Collected → Collected → Type 0
+FilePictureTells Has false files path words before after = after ≡ before
+FilePictureTells Has true files path words before after =
+    (image : Fields) × HoldsImage files path image × ListsTell Has image words before after
+
 -- what goes out for a request, by what files hold
 abbrev pub RequestTells : Counting → Request → Contents → Collected → Collected → Type 0
 RequestTells Has (requests.Run image arguments options) files before after =
@@ -93,6 +119,8 @@ RequestTells Has (requests.Pair image arguments options) files before after =
 RequestTells Has (requests.Certify image arguments options) files before after =
     FileCertificateTells Has options.progress options.shifts files image.now (map (λ word. word.now) arguments.now)
     before after
+RequestTells Has (requests.Picture image arguments progress) files before after =
+    FilePictureTells Has progress files image.now (map (λ word. word.now) arguments.now) before after
 RequestTells Has (requests.ElfCertify file words options) files before after =
     FileFunctionTells Has options.progress (run_options options) files file.now words before after
 RequestTells Has request files before after = after ≡ before

@@ -55,7 +55,7 @@ Answers (requests.Pair image arguments options) files text status =
 Answers (requests.Certify image arguments options) files text status =
     SaysCertificate options.explain (shifts_seen options.shifts) files image.now
     (map (λ word. word.now) arguments.now) text status
-Answers (requests.Picture image arguments) files text status =
+Answers (requests.Picture image arguments progress) files text status =
     SaysPicture files image.now (map (λ word. word.now) arguments.now) text × (status ≡ 0)
 Answers (requests.List image) files text status = SaysList files image.now text × (status ≡ 0)
 Answers (requests.Wrap file code image frame steps profile) files text status = (text ≡ []) × (status ≡ 0)
@@ -87,7 +87,7 @@ Leaves (requests.Run image arguments options) before after = after ≡ before
 Leaves (requests.Leak image arguments) before after = after ≡ before
 Leaves (requests.Pair image arguments options) before after = after ≡ before
 Leaves (requests.Certify image arguments options) before after = after ≡ before
-Leaves (requests.Picture image arguments) before after = after ≡ before
+Leaves (requests.Picture image arguments progress) before after = after ≡ before
 Leaves (requests.List image) before after = after ≡ before
 Leaves (requests.Wrap file code image frame steps profile) before after =
     WritesFile image.now (IsImageOfCode (record { frame_bytes = frame; max_steps = steps; profile = profile }) before
@@ -128,7 +128,7 @@ Refuses (requests.Pair image arguments options) before after fault =
 Refuses (requests.Certify image arguments options) before after fault =
     RefusesCertificate (shifts_seen options.shifts) before image.now (map (λ word. word.now) arguments.now) fault
     × (after ≡ before)
-Refuses (requests.Picture image arguments) before after fault =
+Refuses (requests.Picture image arguments progress) before after fault =
     RefusesPicture before image.now (map (λ word. word.now) arguments.now) fault × (after ≡ before)
 Refuses (requests.List image) before after fault = NoImage before image.now fault × (after ≡ before)
 Refuses (requests.Wrap file code image frame steps profile) before after fault =

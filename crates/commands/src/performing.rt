@@ -272,9 +272,14 @@ fn answer<'a, F: Files, O: Sink, E: Sink>(
             out,
             certify_image(alloc, image, arguments, options, files, err),
         ),
-        Request::Picture { image, arguments } => {
-            print(out, picture_image(alloc, image, arguments, files))
-        }
+        Request::Picture {
+            image,
+            arguments,
+            progress,
+        } => print(
+            out,
+            picture_image(alloc, image, arguments, progress, files, err),
+        ),
         Request::List { image } => print(out, list_image(alloc, image, files)),
         Request::Wrap {
             file,

@@ -102,7 +102,7 @@ pub fn outcome_of<E: Sink>(
 
 /// Compares two runs of an image as `pair` does, and a line goes out behind each so many steps of both after which both
 /// go on.
-fn pair_telling<E: Sink>(
+pub fn pair_telling<E: Sink>(
     alloc: Global,
     image: &Image,
     one: &Args,

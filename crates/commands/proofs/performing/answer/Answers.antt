@@ -1,6 +1,7 @@
 use Rattle.std.proofs.Common.{refl}
 use Rattle.commands.proofs.AnswerLemmas.{does_read, ends_read, does_fault, ends_fault, does_silently, told_after}
 use Rattle.commands.proofs.AnswerLemmas.{part_after}
+use Rattle.commands.proofs.PictureProgress.{file_picture_reaches}
 use Rattle.commands.proofs.ProgressLemmas.{pair_reaches, certificate_reaches, function_reaches}
 use Rattle.commands.proofs.RunLines.{run_reaches}
 use Rattle.commands.proofs.performing.answer.Goals as goal
@@ -65,6 +66,16 @@ returns-in-Picture-clause-does g c = λ files out.
 
 pub returns-in-Picture-clause-ended : goal.returns-in-Picture-clause-ended
 returns-in-Picture-clause-ended g c = ends_read _ _ c.picture_image.ensures.read c.print-in-Picture.ensures
+
+pub returns-in-Picture-clause-told : goal.returns-in-Picture-clause-told
+returns-in-Picture-clause-told g c = λ files err.
+    told_after c.in-Picture.is _ _ _ c.print-in-Picture.ensures (c.picture_image.ensures.told files err)
+
+pub returns-in-Picture-clause-part : goal.returns-in-Picture-clause-part
+returns-in-Picture-clause-part g c = λ files err.
+    part_after c.in-Picture.is _ _ _ _ c.print-in-Picture.ensures (c.picture_image.ensures.part files err)
+    (c.picture_image.ensures.told files err)
+    (file_picture_reaches _ _ _ _ _ c.in-Picture.progress)
 
 pub returns-in-List-clause-does : goal.returns-in-List-clause-does
 returns-in-List-clause-does g c = λ files out.
