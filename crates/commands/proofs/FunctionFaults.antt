@@ -4,7 +4,7 @@ use Rattle.commands.specs.Below.{numbered_of, Place, Refusal}
 use Rattle.commands.specs.Contents.{Contents, Store}
 use Rattle.commands.specs.Failures.{IsReadBy}
 use Rattle.commands.specs.FunctionFiles.{IsFaultIn, IsTakenIn, not_accepted, RefusesFunction, taken_name}
-use Rattle.commands.specs.Sources.{IsReadFrom, joined, numbered}
+use Rattle.commands.specs.Sources.{IsReadFrom}
 use Rattle.command_line.specs.declared.options.LinkOptions.{LinkOptions}
 use Rattle.commands.specs.declared.fault.Fault.{Fault}
 use Rattle.commands.specs.declared.fault.Fault.TheVariants.{Text, Explained, Image, Run, Eval, Plan, Harts, Vectors}

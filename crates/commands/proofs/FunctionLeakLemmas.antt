@@ -7,7 +7,7 @@ use Rattle.commands.specs.Below.{FunctionStop, IsFunctionLeak, LeaksFunction, ne
 use Rattle.commands.specs.Below.{Writes, WritesPart}
 use Rattle.commands.specs.Contents.{Contents, Store}
 use Rattle.commands.specs.Executables.{HoldsExecutable}
-use Rattle.commands.specs.Failures.{CountsFailures, IsReadBy, of_files, of_output}
+use Rattle.commands.specs.Failures.{CountsFailures, IsReadBy}
 use Rattle.commands.specs.FunctionLeaks.{observed_run, SaysFunctionLeak}
 use Rattle.commands.specs.FunctionRunRefusals.{RefusesFunctionRun}
 use Rattle.commands.specs.Leaks.{IsOutputFault}

@@ -10,7 +10,7 @@ use Rattle.commands.specs.Executables.{HoldsExecutable}
 use Rattle.commands.specs.Images.{HoldsImage}
 use Rattle.commands.specs.Progress.{RunGoesOn, PairGoesOn, CertificateGoesOn, FunctionGoesOn, Tells}
 use Rattle.commands.specs.Progress.{FilePairTells, FileCertificateTells, FileFunctionTells}
-use Rattle.commands.specs.Words.{AreSpelled, AreBothSpelled, AreGiven}
+use Rattle.commands.specs.Words.{AreBothSpelled, AreGiven}
 use Rattle.run_reports.proofs.progress_lemmas.Told.{reaches}
 
 -- where it holds whatever the answer is

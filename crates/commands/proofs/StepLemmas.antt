@@ -1,19 +1,18 @@
 -- Steps of a run that are counted, and what goes out behind them.
-use Rattle.std.proofs.Common.{◌≡◌, ◌≢◌, ℕ, suc, ◌+◌, ◌*◌, ◌<◌, ◌≤◌, Bool, true, false, List, [], ◌∷◌, ◌++◌, Option, Some}
+use Rattle.std.proofs.Common.{◌≡◌, ◌≢◌, ℕ, suc, ◌*◌, ◌<◌, ◌≤◌, Bool, true, false, List, [], ◌∷◌, ◌++◌, Option, Some}
 use Rattle.std.proofs.Common.{None, Result, Ok, Err, OnOk, OnErr, inr, refl, sym, ◌∙◌, subst, arith}
 use Rattle.std.specs.Prelude.{slice_get}
-use Rattle.commands.specs.Below.{Arg, code_at, code_base, Collected, Counting, Fields, frame_base, GoesOn, Halts, halted}
+use Rattle.commands.specs.Below.{Arg, code_at, code_base, Collected, Counting, Fields, frame_base, GoesOn, Halts}
 use Rattle.commands.specs.Below.{halts, HasLines, IsPut, IsTold, Leads, loaded_at, MachineCode, Observation, Reaches, RecorderRefused}
-use Rattle.commands.specs.Below.{RunsWithin, State, Stop}
+use Rattle.commands.specs.Below.{State, Stop}
 use Rattle.commands.specs.Progress.{RunGoesOn, RunTells, Tells}
-use Rattle.commands.specs.StepCounts.{MakesSteps, RunMakes, steps_line, until_stop}
+use Rattle.commands.specs.StepCounts.{MakesSteps, RunMakes, steps_line}
 use Rattle.command_line.specs.declared.options.StepOptions.{StepOptions}
 use Rattle.commands.proofs.ProgressLemmas.{told_of_image}
 use Rattle.run_reports.proofs.progress_lemmas.Told.{all_told, reaches}
 use Rattle.run_reports.specs.progress.Lines.{steps_a_line, WentOut}
 use Rattle.rv_machine.proofs.Face.{Leads-more, no_longer, step_made, stopped_at, went_to}
 use Rattle.rv_machine.specs.Leakage.{Stepped}
-use Rattle.rv_machine.specs.Machine.{Step, stops}
 use Rattle.rv_machine.specs.OneStep.{listed, OneStep, stopped, went_on}
 
 -- the step that a call has made

@@ -1,10 +1,7 @@
-use Rattle.std.proofs.Common.{◌≡◌, ◌⊎◌, ℕ, List, Ok, Err, inl, inr, refl, sym, ap, ◌∙◌, subst}
+use Rattle.std.proofs.Common.{◌⊎◌, ℕ, List, Err, inl, inr, refl, sym, ap, ◌∙◌, subst}
 use Rattle.elf.specs.Reading.{IsUnlessMemory, reading}
 use Rattle.commands.specs.Answered.{answered, not_answered}
-use Rattle.commands.specs.Below.{collected, Executable, HasLines}
-use Rattle.commands.specs.Contents.{Contents}
-use Rattle.commands.specs.Executables.{HoldsExecutable, HoldsShort}
-use Rattle.commands.specs.FunctionCertificates.{run_options}
+use Rattle.commands.specs.Below.{Executable, HasLines}
 use Rattle.commands.specs.FunctionRunRefusals.{misspelled, no_executable, out_of_memory, unmet}
 use Rattle.commands.proofs.AnswerLemmas.{finds_fault, finds_converted, read_fault, read_memory}
 use Rattle.commands.proofs.ExecutableLemmas.{executable_held, executable_refused, start_fault, words_read}

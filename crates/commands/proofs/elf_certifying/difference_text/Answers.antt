@@ -1,4 +1,4 @@
-use Rattle.std.proofs.Common.{◌≡◌, ℕ, List, ◌++◌, ap, ◌∙◌, codes, subst}
+use Rattle.std.proofs.Common.{ℕ, List, ◌++◌, ap, ◌∙◌, codes, subst}
 use Rattle.std.specs.Fmt.{decimal}
 use Rattle.commands.specs.Below.{LeadThere, machine_program, place_line, state_at_start}
 use Rattle.commands.proofs.ExecutableLemmas.{line_of_something}

@@ -1,4 +1,4 @@
-use Rattle.std.proofs.Common.{◌≡◌, ℕ, List, Result, Ok, Err, refl, sym, ap, ◌∙◌, subst}
+use Rattle.std.proofs.Common.{ℕ, List, Result, Err, refl, sym, ap, ◌∙◌, subst}
 use Rattle.elf.specs.Reading.{IsUnlessMemory, reading}
 use Rattle.commands.specs.Below.{collected, Executable, FunctionLeakFault, FunctionStop}
 use Rattle.commands.specs.Contents.{Store}

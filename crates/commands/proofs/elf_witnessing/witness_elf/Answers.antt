@@ -1,4 +1,4 @@
-use Rattle.std.proofs.Common.{◌≡◌, ℕ, List, Err, refl, sym, ap, ◌∙◌, subst}
+use Rattle.std.proofs.Common.{ℕ, List, Err, refl, sym, ap, ◌∙◌, subst}
 use Rattle.elf.specs.Reading.{IsUnlessMemory, reading}
 use Rattle.commands.specs.Answered.{not_answered}
 use Rattle.commands.specs.Below.{Executable, RunOptions}

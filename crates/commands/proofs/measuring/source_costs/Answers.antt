@@ -1,4 +1,4 @@
-use Rattle.std.proofs.Common.{◌≡◌, ℕ, List, Bor, Some, Err, map, sym, ap, ◌∙◌, refl, subst}
+use Rattle.std.proofs.Common.{ℕ, List, Bor, Some, Err, map, sym, ap, ◌∙◌, refl, subst}
 use Rattle.std.proofs.lemmas.Str.{IsUtf8-string_bytes}
 use Rattle.std.specs.String.{string_bytes}
 use Rattle.commands.specs.Answered.{not_answered}

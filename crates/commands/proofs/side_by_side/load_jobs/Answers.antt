@@ -1,5 +1,5 @@
 -- One job more.
-use Rattle.std.proofs.Common.{refl, ◌∙◌, arith}
+use Rattle.std.proofs.Common.{◌∙◌, arith}
 use Rattle.language.proofs.Handed.{handed_on, converted_on}
 use Rattle.commands.proofs.AnswerLemmas.{read_fault, read_memory}
 use Rattle.commands.proofs.HartLemmas.{one_job_more, job_refused}

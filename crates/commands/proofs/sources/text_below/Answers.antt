@@ -1,6 +1,5 @@
-use Rattle.std.proofs.Common.{◌≡◌, ◌<◌, ◌≤◌, ℕ, List, Some, Vec, Global, length, refl, sym, ap, ◌∙◌, arith}
+use Rattle.std.proofs.Common.{◌<◌, ℕ, Some, Vec, Global, length, refl, sym, ap, ◌∙◌, arith}
 use Rattle.std.proofs.lemmas.Bool.{false≢true}
-use Rattle.std.proofs.lemmas.List.{length-take}
 use Rattle.commands.specs.Sources.{unread_below, too_long_below, not_utf8_below}
 use Rattle.commands.proofs.HartLemmas.{all_of_it}
 use Rattle.language.proofs.Handed.{handed_on}

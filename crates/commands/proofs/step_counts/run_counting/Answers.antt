@@ -1,10 +1,9 @@
 -- Another step, or the run's end.
-use Rattle.std.proofs.Common.{◌≡◌, ℕ, ◌+◌, ◌-◌, ◌*◌, ◌≤◌, suc, Some, [], ◌++◌, inl, inr, refl, sym, ap, ◌∙◌, subst, arith}
+use Rattle.std.proofs.Common.{◌≡◌, ◌≤◌, suc, Some, [], ◌++◌, inl, refl, ap, ◌∙◌, subst, arith}
 use Rattle.commands.specs.Below.{code_of, collected, halted, spent, state_of, stays}
 use Rattle.commands.specs.StepCounts.{MakesSteps, all, until_stop}
 use Rattle.commands.proofs.StepLemmas.{apart, lines_halted, lines_spent, made_one, reached_more, run_halts, run_leads, told_by}
 use Rattle.run_reports.proofs.progress_lemmas.Told.{none_yet}
-use Rattle.run_reports.specs.progress.Lines.{steps_a_line}
 use Rattle.rv_machine.specs.OneStep.{listed}
 use Rattle.commands.proofs.step_counts.run_counting.Goals.{else-progress-via-then-progress+then-is_due+else-running-gt0}
 use Rattle.commands.proofs.step_counts.run_counting.Goals.{else-progress-via-then-progress+else-is_due}

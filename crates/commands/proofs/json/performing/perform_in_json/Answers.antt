@@ -168,7 +168,7 @@ returns-in-Run-clause-performed g c = λ files out err.
     let done = c.perform_in_text.ensures.performed files out err in
     ⊎_elim (λ run. in_text _ run.3 (λ p. p) done)
     (⊎_elim (λ leak. in_text _ leak.2 (λ p. p) done)
-    (⊎_elim (λ picture. in_text _ picture.2 (λ p. p) done)
+    (⊎_elim (λ picture. in_text _ picture.3 (λ p. p) done)
     (⊎_elim (λ list. in_text _ list.1 (λ p. p) done)
     (⊎_elim (λ wrap. in_text _ wrap.6 (λ p. p) done)
     (⊎_elim (λ harts. in_text _ harts.1 (λ p. p) done)
