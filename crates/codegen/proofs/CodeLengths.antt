@@ -11,9 +11,9 @@ use Rattle.codegen.proofs.LoopLengths.{repeat_spans}
 pub use Rattle.codegen.proofs.WordLengths.{assign_length}
 use Rattle.codegen.proofs.WordLengths.{read_length, stored_length, value_length}
 use Rattle.codegen.specs.private.Loops.{any_sets}
-use Rattle.codegen.specs.private.Emitted.{gives_zero, read_register, stored_register, stored_value, set_code}
+use Rattle.codegen.specs.private.Emitted.{gives_zero, read_code, read_register, stored_register, stored_value, set_code}
 use Rattle.codegen.specs.private.Emitted.{set_under_code, taken_code, kept_code, join_code, element_store_code}
-use Rattle.codegen.specs.private.Emitted.{clear_code, array_code, fill_code, into_element_code, statement_code}
+use Rattle.codegen.specs.private.Emitted.{clear_code, array_code, fill_code, into_near_code, statement_code}
 use Rattle.codegen.specs.private.Emitted.{block_code, index_code, put_code, put_element_code, put_under_code}
 use Rattle.codegen.specs.private.Emitted.{put_under_near_code}
 use Rattle.codegen.specs.private.Erased.{erase_under_code}
@@ -23,7 +23,8 @@ use Rattle.codegen.proofs.Machine.{access_offset, Allocation, computed_index, Fr
 use Rattle.codegen.specs.expression_code.TermCode.{sum_offset}
 use Rattle.codegen.specs.Below.{binary}
 use Rattle.codegen.proofs.Slotted.{first_words}
-use Rattle.codegen.proofs.Machine.{temporaries_offset, kind_at, near_element, height_of, Instr, slots_to}
+use Rattle.codegen.proofs.Machine.{home_of, mirror_of, temporaries_offset, kind_at, near_place, height_of, Instr, slots_to}
+use Rattle.codegen.proofs.Mirroring.{mirror_length}
 use Rattle.codegen.proofs.Machine.{InRegister, InSlot, Location, variable_location, unless_unread}
 use Rattle.codegen.specs.private.Placed.{IsPlaced}
 use Rattle.codegen.proofs.StoredValues.{stored_nodes}
@@ -60,15 +61,6 @@ element_store_length r kind o = one_of (nat_lt o 2048) _ _ 3 (omega arith) (omeg
 clear_length : (o words : ℕ) → length (clear_code o words) ≤ 16
 clear_length o words = simp length-append (omega (arith, constant_length 6 o, constant_length 7 (4 * words)))
 
-into_element_length : (layout : Frame) (kind : Kind) (o : ℕ)
-    (e : TermTree) → length (into_element_code layout kind o e) ≤ 16 * term_nodes e + 3
-into_element_length layout kind o e =
-    simp length-append (omega (
-      arith,
-      stored_length layout e,
-      element_store_length (stored_register layout.allocation e) kind o,
-    ))
-
 -- what is computed of an index is no longer than the index
 part_nodes : (declared : List FlatVariable) (a : Allocation) (x : ℕ) (index : TermTree)
     → term_nodes (computed_index declared a x index) ≤ term_nodes index
@@ -87,29 +79,23 @@ put_length layout None x index value =
     let nodes = stored_nodes layout.allocation kind value in
     let part = computed_index layout.declared layout.allocation x index in
     let few = part_nodes layout.declared layout.allocation x index in
-    code_length (near_element layout.declared layout.allocation x index)
-    (λ o. into_element_code layout kind o other)
+    code_length (near_place layout.declared layout.allocation x index)
+    (λ place. into_near_code layout kind place other)
     (index_code layout part other
     ++ put_code (read_register layout.allocation 5 part) (read_register layout.allocation 6 other) kind
     (access_offset layout.declared layout.allocation x index)) _
-    (λ o. omega (arith, nodes, into_element_length layout kind o other))
+    (λ place. omega (arith, length-append {A = Instr}, nodes, stored_length layout other))
     (omega (arith, nodes, few, length-append {A = Instr}, read_length, address_length))
 put_length layout (Some c) x index value =
     let control = control_location layout c in
     let part = computed_index layout.declared layout.allocation x index in
     let few = part_nodes layout.declared layout.allocation x index in
-    code_length (near_element layout.declared layout.allocation x index)
-    (λ o. put_under_near_code layout control (kind_at layout.declared x) o value)
+    code_length (near_place layout.declared layout.allocation x index)
+    (λ place. put_under_near_code layout control (kind_at layout.declared x) place value)
     (index_code layout part value
     ++ put_under_code (read_register layout.allocation 5 part) (read_register layout.allocation 6 value) control
     (kind_at layout.declared x) (access_offset layout.declared layout.allocation x index)) _
-    (λ o. omega (
-      arith,
-      length-append {A = Instr},
-      read_length layout 5 0 value,
-      fetch_length control 7,
-      element_store_length 5 (kind_at layout.declared x) o,
-    ))
+    (λ place. omega (arith, length-append {A = Instr}, read_length layout 5 0 value, fetch_length control 7))
     (omega (arith, few, length-append {A = Instr}, read_length, fetch_length, address_length))
 
 set_under_length : (r : ℕ) (l control : Location) → length (set_under_code r l control) ≤ 12
@@ -121,20 +107,25 @@ erase_under_length (InRegister home) control = simp length-append (omega (arith,
 erase_under_length (InSlot o) control = simp length-append (omega (arith, load_length, fetch_length, store_length))
 
 set_length : (layout : Frame) (within : Option ℕ) (l : Location)
-    (e : TermTree) → length (set_code layout within l e) ≤ 32 * (1 + term_nodes e)
+    (e : TermTree) → length (set_code layout within l e) + 2 ≤ 32 * (1 + term_nodes e)
 set_length layout None (InRegister home) e =
     omega (arith, value_length layout home 0 e)
 set_length layout None (InSlot o) e = omega (arith, assign_length layout e o)
 set_length layout (Some c) l e =
     let control = control_location layout c in
-    one_of (gives_zero layout.allocation e) _ _ _
-    (omega (arith, erase_under_length l control))
-    (omega (
+    omega (
       arith,
-      length-append {A = Instr},
-      read_length,
-      set_under_length (read_register layout.allocation 5 e) l control,
-    ))
+      one_of (gives_zero layout.allocation e) (erase_under_code l control)
+          (read_code layout 5 0 e ++ set_under_code (read_register layout.allocation 5 e) l control)
+          (30 + 32 * term_nodes e)
+          (omega (arith, erase_under_length l control))
+          (omega (
+            arith,
+            length-append {A = Instr},
+            read_length,
+            set_under_length (read_register layout.allocation 5 e) l control,
+          )),
+    )
 
 pub fill_length : (layout : Frame) (kind : Kind) (o : ℕ)
     (es : List TermTree) → length (fill_code layout kind o es) ≤ 32 * terms_nodes es
@@ -163,7 +154,12 @@ module _ (layout : Frame) where
     pub statement_length : (depth : ℕ) (s : StraightTree)
         → length (statement_code layout depth s) ≤ 32 * statement_nodes s
     statement_length depth (set within x value) =
-        set_length layout within (variable_location layout.declared layout.allocation x) value
+        omega (
+          arith,
+          length-append {A = Instr},
+          set_length layout within (variable_location layout.declared layout.allocation x) value,
+          mirror_length (home_of layout.allocation.homes x) (mirror_of layout.allocation x),
+        )
     statement_length depth (array x size values) = array_length layout x size values
     statement_length depth (put within place x size index value) =
         put_length layout within x index value

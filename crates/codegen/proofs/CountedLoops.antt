@@ -13,7 +13,7 @@ use Rattle.codegen.proofs.LoopRuns.{AtLoop, bounds_runs, is_left, next, next_ins
 use Rattle.codegen.proofs.Logic.{lt-ltb, nat_tests, none-some, same_Some, HeldAt, Setting, setting, base_of, MarkKnown}
 use Rattle.codegen.proofs.Logic.{terms_at}
 use Rattle.codegen.proofs.Logic.{layout_of}
-use Rattle.codegen.proofs.Logic.{by_bounds, none, Runs, along, along_fit, seq, quietly, weaken, gives, cheaper, never}
+use Rattle.codegen.proofs.Logic.{by_bounds, none, quiet, Runs, along, along_fit, seq, quietly, weaken, gives, cheaper, never}
 use Rattle.codegen.proofs.Logic.{Ready, HomesKept, home_beside, homes_moved, number_or_zero, take, does, moves_run}
 use Rattle.codegen.proofs.Logic.{kept_less, register-at}
 use Rattle.codegen.proofs.Logic.{load_length}
@@ -27,7 +27,8 @@ use Rattle.codegen.specs.private.Loops.{short_number, to_number_code, iterations
 use Rattle.codegen.specs.Below.{Addi, number, sign_extended, Sltiu}
 use Rattle.rv_code.specs.declared.instructions.Instr.TheVariants as instr
 use Rattle.rv_machine.specs.Machine as machine
-use Rattle.codegen.proofs.HomeWords.{ready_homed}
+use Rattle.codegen.proofs.Machine.{mirror_code, mirror_of}
+use Rattle.codegen.proofs.Mirroring.{mirror_length, mirror_runs, ready_mirrored}
 use Rattle.codegen.proofs.expression_code_lemmas.WorkRegisters.{when_some}
 use Rattle.codegen.proofs.program_logic_lemmas.Pieces.{by_test}
 
@@ -97,10 +98,17 @@ module _ (z : Setting) (depth x h : ℕ) (within : depth < z.depths)
 
   -- the cost of all iterations, with so many instructions in the test
   abbrev iterations_cost : ℕ → ℕ
-  iterations_cost c = slice_index z.counts x * (n + (1 + c) + 1)
+  iterations_cost c = slice_index z.counts x * (n + (3 + c) + 1)
 
-  round_near : (test : List Instr) → length test ≤ 4 → 2 * length (ys ++ instr.Immediate Addi h h 1 ∷ test) ≤ 2 ^ 11
-  round_near test few = omega (arith, few, short, length-append {A = Instr})
+  -- the code by which the counter's mirror follows it
+  abbrev mirror : List Instr
+  mirror = mirror_code z.allocation x
+
+  round_near : (test : List Instr) → length test ≤ 4
+      → 2 * length (ys ++ (instr.Immediate Addi h h 1 ∷ (mirror ++ test))) ≤ 2 ^ 11
+  round_near test few =
+      let short_mirror = mirror_length (home_of z.allocation.homes x) (mirror_of z.allocation x) in
+      omega (arith, few, short, short_mirror, length-append {A = Instr})
 
   -- what is shown with bounds that are known beforehand is shown with those of the state
   looped_by : (b : ℕ × ℕ) (env : StraightState) (s t : machine.State) → bounds env ≡ b
@@ -139,10 +147,10 @@ module _ (z : Setting) (depth x h : ℕ) (within : depth < z.depths)
     start = read_register z.allocation 5 low
 
     abbrev guard_code : List Instr
-    guard_code = below_number_code 6 start bound ++ guarded_code 6 h start (below_number_code 5 h bound) ys
+    guard_code = below_number_code 6 start bound ++ guarded_code 6 h mirror start (below_number_code 5 h bound) ys
 
     guard_at : (b : ℕ × ℕ) → b.1 - b.0 ≤ slice_index z.counts x
-        → Runs z (1 + (2 + (1 + (iterations_cost 1 + 1)) + 0)) (λ env. path_by env (bounds env)) guard_code
+        → Runs z (1 + (2 + (3 + (iterations_cost 1 + 3)) + 0)) (λ env. path_by env (bounds env)) guard_code
         (With (FirstRead z low) b) Looped
     guard_at b few =
         let source = read_source z low 5 (omega arith) (omega arith) in
@@ -177,7 +185,7 @@ module _ (z : Setting) (depth x h : ℕ) (within : depth < z.depths)
         (λ env s t known done. done.0)))
 
     -- from any first number on
-    read_number_runs : Runs z (16 * term_nodes low + (1 + (2 + (1 + (iterations_cost 1 + 1)) + 0)))
+    read_number_runs : Runs z (16 * term_nodes low + (1 + (2 + (3 + (iterations_cost 1 + 3)) + 0)))
         (λ env. path_in env.variables low ++ bounded x (bounds env).0 (bounds env).1 ∷ path_by env (bounds env))
         (read_code (layout_of z) 5 0 low ++ guard_code) (Ready z) Looped
     read_number_runs =
@@ -190,9 +198,9 @@ module _ (z : Setting) (depth x h : ℕ) (within : depth < z.depths)
 
     certain_at : (b : ℕ × ℕ) → is_below bound low ≡ true → b.1 - b.0 ≤ slice_index z.counts x → (left : ℕ)
         → b.1 - b.0 ≡ left
-        → Runs z (iterations_cost 1 + 1)
+        → Runs z (iterations_cost 1 + 3)
         (λ env. path_of_iterations left b.0 one_iteration (λ i e. path_along (counted x i e) body) env)
-        (iterations_code h (below_number_code 5 h bound) ys)
+        (iterations_code h mirror (below_number_code 5 h bound) ys)
         (With Counted b)
         (λ env s t. Done (iterations left b.0 one_iteration env) s t)
     certain_at b below few zero is =
@@ -203,7 +211,7 @@ module _ (z : Setting) (depth x h : ℕ) (within : depth < z.depths)
         let less = below_is low bound below env.variables in omega (arith, is, first, second, less))
     certain_at b below few (suc left) is =
         let limit = b.0 + left + 1 in
-        let e = mul-le (left + 1) (n + (1 + 1) + 1) (slice_index z.counts x) (n + (1 + 1) + 1)
+        let e = mul-le (left + 1) (n + (3 + 1) + 1) (slice_index z.counts x) (n + (3 + 1) + 1)
         (omega (arith, few, is)) (omega arith) in
         cheaper (omega (arith, e))
         (weaken
@@ -219,9 +227,9 @@ module _ (z : Setting) (depth x h : ℕ) (within : depth < z.depths)
         (iterations_runs z depth x h known at 1 n limit (AtBound limit) body (λ s t hidden is. is) (limited limit)
         (number_tests limit) unset inner (round_near _ (omega arith)) left b.0))
 
-    certain_runs : is_below bound low ≡ true → Runs z (16 * term_nodes low + (iterations_cost 1 + 1))
+    certain_runs : is_below bound low ≡ true → Runs z (16 * term_nodes low + 2 + (iterations_cost 1 + 3))
         (λ env. path_in env.variables low ++ bounded x (bounds env).0 (bounds env).1 ∷ path_by env (bounds env))
-        (into_code (terms_at z (base_of z)) h 0 low ++ iterations_code h (below_number_code 5 h bound) ys)
+        ((into_code (terms_at z (base_of z)) h 0 low ++ mirror) ++ iterations_code h mirror (below_number_code 5 h bound) ys)
         (Ready z) Looped
     certain_runs below =
         let is = z.allocated.allowed x h at in
@@ -230,23 +238,26 @@ module _ (z : Setting) (depth x h : ℕ) (within : depth < z.depths)
         (λ env s t fine ready done. record {
           ready = done.second.ready;
           hidden = hidden_then z depth s done.middle t
-              (hidden_kept z depth s done.middle (omega (arith, within))
-              (kept_less z (base_of z) (base_of z + 4 * (0 - z.allocation.count)) s done.middle (omega arith)
-              done.first.kept)) done.second.hidden;
+              (hidden_then z depth s done.first.middle done.middle
+              (hidden_kept z depth s done.first.middle (omega (arith, within))
+              (kept_less z (base_of z) (base_of z + 4 * (0 - z.allocation.count)) s done.first.middle (omega arith)
+              done.first.first.kept))
+              (hidden_by z depth done.first.middle done.middle done.first.second.same)) done.second.hidden;
         })
-        (seq (homed_runs z h is has_low room_low)
+        (seq (quiet (homed_runs z h is has_low room_low) (mirror_runs z x) (λ env s t ready done. done.held))
         (by_bounds z x bounds (λ b few. along_fit (λ env s known. ap (path_by env) known.is)
         (gives (λ env s t fine known done. looped_by b env s t known.is done)
         (certain_at b below few (b.1 - b.0) refl))))
         (λ env s t ready done.
-        let kept = kept_less z (base_of z) (base_of z + 4 * (0 - z.allocation.count)) s t (omega arith) done.kept in
-        ready_homed z x h (value_in env.variables low) counter_type false known at
-        (omega (arith, less env.variables, is_short.small)) env s t ready done.held kept done.there
-        (λ r other apart. done.lower r (home_beside z.allocation.count 0 h r other.0 other.1 apart))))
+        let m = done.middle in
+        let kept = kept_less z (base_of z) (base_of z + 4 * (0 - z.allocation.count)) s m (omega arith) done.first.kept in
+        ready_mirrored z x h (value_in env.variables low) counter_type false known at
+        (omega (arith, less env.variables, is_short.small)) env s m t ready kept done.first.there
+        (λ r other apart. done.first.lower r (home_beside z.allocation.count 0 h r other.0 other.1 apart)) done.second))
 
-    pub to_number_runs : Runs z (16 * term_nodes low + (1 + (2 + (1 + (iterations_cost 1 + 1)) + 0)))
+    pub to_number_runs : Runs z (16 * term_nodes low + (1 + (2 + (3 + (iterations_cost 1 + 3)) + 0)))
         (λ env. path_at env (repeats x low high body))
-        (to_number_code (layout_of z) h low bound ys) (Ready z)
+        (to_number_code (layout_of z) h mirror low bound ys) (Ready z)
         (StateShown z depth (λ env. after env (repeats x low high body)))
     to_number_runs =
         along
@@ -304,10 +315,10 @@ module _ (z : Setting) (depth x h : ℕ) (within : depth < z.depths)
     Beginning env s = AtLoop z words ((bounds env).1 - (bounds env).0) (bounds env).0 env s
 
     abbrev word_code : List Instr
-    word_code = test_code words ++ guarded_code 5 h 6 (below_word_code h words) ys
+    word_code = test_code words ++ guarded_code 5 h mirror 6 (below_word_code h words) ys
 
     word_at : (b : ℕ × ℕ) → b.1 - b.0 ≤ slice_index z.counts x
-        → Runs z (7 + (2 + (1 + (iterations_cost 4 + 1)) + 0)) (λ env. path_by env (bounds env)) word_code
+        → Runs z (7 + (2 + (3 + (iterations_cost 4 + 3)) + 0)) (λ env. path_by env (bounds env)) word_code
         (With Beginning b) Looped
     word_at b few =
         let limit = b.0 + (b.1 - b.0) in
@@ -345,7 +356,7 @@ module _ (z : Setting) (depth x h : ℕ) (within : depth < z.depths)
         (λ env s t known done. done.0)))
 
     pub to_word_runs : Runs z (16 * term_nodes low + 3 + (16 * term_nodes high + 3)
-        + (7 + (2 + (1 + (iterations_cost 4 + 1)) + 0))) (λ env. path_at env (repeats x low high body))
+        + (7 + (2 + (3 + (iterations_cost 4 + 3)) + 0))) (λ env. path_at env (repeats x low high body))
         (bounds_code (layout_of z) words low high ++ word_code) (Ready z)
         (StateShown z depth (λ env. after env (repeats x low high body)))
     to_word_runs =

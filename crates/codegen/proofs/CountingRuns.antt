@@ -7,8 +7,8 @@ use Rattle.std.proofs.Common.{subst, arith, eq-eqb, length-append}
 use Rattle.std.proofs.lemmas.Nat.{mul-le}
 use Rattle.codegen.proofs.Language.{word_as, iterations, path_of_iterations, counter_type, StraightBlock, StraightState}
 use Rattle.codegen.proofs.Language.{counted, after_all, path_along, Path, word_of}
-use Rattle.codegen.proofs.Machine.{home_of, Instr, ByteMap, sign_extended, sum_of, Addi}
-use Rattle.codegen.proofs.Logic.{eqb-true, lt-ltb, nat_tests, Held, HeldAt, Setting, setting, base_of, Runs, Still}
+use Rattle.codegen.proofs.Machine.{home_of, mirror_code, mirror_of, Instr, ByteMap, sign_extended, sum_of, Addi}
+use Rattle.codegen.proofs.Logic.{Before, eqb-true, lt-ltb, nat_tests, Held, HeldAt, Setting, setting, base_of, Runs, Still}
 use Rattle.codegen.proofs.Logic.{quiet, quietly, weaken, gives, cheaper, beside, idle, never, Ready, none, HomesKept}
 use Rattle.codegen.proofs.Logic.{kept_by, is_free, none_low, computing_within, move_length, register-at, unwritten}
 use Rattle.codegen.proofs.Logic.{written}
@@ -24,7 +24,7 @@ use Rattle.codegen.proofs.program_logic_lemmas.Loops.{repeating}
 use Rattle.codegen.proofs.program_logic_lemmas.Pieces.{by_test}
 use Rattle.rv_code.specs.declared.instructions.Instr.TheVariants as instr
 use Rattle.rv_machine.specs.Machine as machine
-use Rattle.codegen.proofs.HomeWords.{ready_homed}
+use Rattle.codegen.proofs.Mirroring.{Mirrored, mirror_length, mirror_runs, ready_mirrored}
 
 one_below : (a b : ℕ) → a < b → word_of (nat_lt a b) ≡ 1
 one_below a b h = ap word_of (lt-ltb a b h)
@@ -77,18 +77,50 @@ module _ (z : Setting) (depth x h : ℕ) (known : slice_get z.declared x ≡ Som
   pub home_high : h < 28
   home_high = (z.allocated.allowed x h at).1
 
+  -- the code by which the home's mirror follows it
+  abbrev pub follow : List Instr
+  follow = mirror_code z.allocation x
+
+  pub follow_length : length follow ≤ 2
+  follow_length = mirror_length (home_of z.allocation.homes x) (mirror_of z.allocation x)
+
+  -- the home gets a number, and then its mirror follows it
+  pub record HoldsCount (v : ℕ) (s t : machine.State) : Type 0 where
+    pub middle : machine.State
+    pub first : HoldsNumber z h v s middle
+    pub second : Mirrored z x middle t
+
+  pub count_there : {v : ℕ} {s t : machine.State} → HoldsCount v s t → t.regs h ≡ v
+  count_there done =
+      done.second.others h (λ e. omega (arith, home_high, e))
+      (λ mirror is. z.allocated.mirror_apart x x h mirror is at)
+      ∙ done.first.there
+
+  pub count_same : {v : ℕ} {s t : machine.State} → HoldsCount v s t → t.bytes ≡ s.bytes
+  count_same done = done.second.same ∙ done.first.same
+
+  followed : {is : List Instr} {P : Before} (v : machine.State → ℕ)
+      → Runs z 1 none is P (λ env s t. HoldsNumber z h (v s) s t)
+      → Runs z 3 none (is ++ follow) P (λ env s t. HoldsCount (v s) s t)
+  followed v runs =
+      gives
+      (λ env s t fine given done. record { middle = done.middle; first = done.first; second = done.second })
+      (quiet runs (mirror_runs z x) (λ env s t given done. done.held))
+
   -- where the home gets a number, the counter has that, and nothing else that is shown changes
   pub numbered : {v w : ℕ} → w < 2 ^ 32 → (env : StraightState) (s t : machine.State) → Ready z env s
-      → HoldsNumber z h v s t → v ≡ w → Ready z (counted x w env) t
+      → HoldsCount v s t → v ≡ w → Ready z (counted x w env) t
   numbered {w = w} small env s t ready done is =
-      ready_homed z x h w counter_type false known at small env s t ready done.held
-      (kept_by z (base_of z) s t done.same) (done.there ∙ is) (λ q home apart. done.others q apart)
+      let m = done.middle in
+      ready_mirrored z x h w counter_type false known at small env s m t ready
+      (kept_by z (base_of z) s m done.first.same) (done.first.there ∙ is) (λ q home apart. done.first.others q apart)
+      done.second
 
-  -- a register and a field are added into the home
-  added : (r field : ℕ) → 4 < r → r < 32 → field < 4096
+  -- a register and a field are added into the home alone
+  one_added : (r field : ℕ) → 4 < r → r < 32 → field < 4096
       → Runs z 1 none (instr.Immediate Addi h r field ∷ []) (Held z)
       (λ env s t. HoldsNumber z h (sum_of (s.regs r) (sign_extended 12 field)) s t)
-  added r field low few small =
+  one_added r field low few small =
       gives
       (λ env s t fine held done. subst (λ v. HoldsNumber z h v s t)
       (ap (λ a. sum_of a (sign_extended 12 field)) (register-at s.regs r (λ e. omega (arith, low, e)))) done)
@@ -100,11 +132,11 @@ module _ (z : Setting) (depth x h : ℕ) (known : slice_get z.declared x ≡ Som
         lt-ltb field 4096 small,
       )) (λ e. omega (arith, home_low, e)))
 
-  -- the number in a register comes into the home
-  pub moved_in : (r : ℕ) → 4 < r → r < 32
+  -- the number in a register comes into the home alone
+  one_moved : (r : ℕ) → 4 < r → r < 32
       → Runs z 1 none (move_code h r) (λ env s. HeldAt z s × (s.regs r < 2 ^ 32))
       (λ env s t. HoldsNumber z h (s.regs r) s t)
-  moved_in r low few =
+  one_moved r low few =
       by_test (h == r)
       (λ e. idle (λ env s given. record {
         held = given.0;
@@ -117,7 +149,20 @@ module _ (z : Setting) (depth x h : ℕ) (known : slice_get z.declared x ≡ Som
       (λ env s t fine given done.
       let sum : sum_of (s.regs r) 0 ≡ s.regs r = omega (arith, given.1) in
       subst (λ v. HoldsNumber z h v s t) sum done)
-      (added r 0 low few (omega arith)))
+      (one_added r 0 low few (omega arith)))
+
+  -- a register and a field are added into the home
+  pub added : (r field : ℕ) → 4 < r → r < 32 → field < 4096
+      → Runs z 3 none (instr.Immediate Addi h r field ∷ follow) (Held z)
+      (λ env s t. HoldsCount (sum_of (s.regs r) (sign_extended 12 field)) s t)
+  added r field low few small =
+      followed (λ s. sum_of (s.regs r) (sign_extended 12 field)) (one_added r field low few small)
+
+  -- the number in a register comes into the home
+  pub moved_in : (r : ℕ) → 4 < r → r < 32
+      → Runs z 3 none (move_code h r ++ follow) (λ env s. HeldAt z s × (s.regs r < 2 ^ 32))
+      (λ env s t. HoldsCount (s.regs r) s t)
+  moved_in r low few = followed (λ s. s.regs r) (one_moved r low few)
 
   -- the home has the number that the counter has
   number_there : (i : ℕ) (env : StraightState) (s : machine.State) → env.variables x ≡ i ∷ [] → Ready z env s
@@ -150,7 +195,7 @@ module _ (z : Setting) (depth x h : ℕ) (known : slice_get z.declared x ≡ Som
       (unset : any_sets x body ≡ false)
       (inner : Runs z n (λ env. path_along env body) ys (Ready z)
       (StateShown z (depth + 1) (λ env. after_all env body)))
-      (near : 2 * length (ys ++ instr.Immediate Addi h h 1 ∷ test) ≤ 2 ^ 11) where
+      (near : 2 * length (ys ++ (instr.Immediate Addi h h 1 ∷ (follow ++ test))) ≤ 2 ^ 11) where
     abbrev one_iteration : ℕ → StraightState → StraightState
     one_iteration i env = after_all (counted x i env) body
 
@@ -172,7 +217,7 @@ module _ (z : Setting) (depth x h : ℕ) (known : slice_get z.declared x ≡ Som
       hidden : Hidden z (depth + 1) s t
 
     round_runs : (left i : ℕ)
-        → Runs z (n + (1 + c)) (iteration_path i) (ys ++ instr.Immediate Addi h h 1 ∷ test) (Iteration left i)
+        → Runs z (n + (3 + c)) (iteration_path i) (ys ++ (instr.Immediate Addi h h 1 ∷ (follow ++ test))) (Iteration left i)
         (Iterated left i)
     round_runs left i =
         gives
@@ -186,7 +231,7 @@ module _ (z : Setting) (depth x h : ℕ) (known : slice_get z.declared x ≡ Som
         let more : sum_of (m.regs h) 1 ≡ i + 1 =
         ap (λ a. sum_of a 1) (number_there i (one_iteration i env) m (iteration_is i env) shown.ready)
         ∙ omega (arith, small, given.last) in
-        let same : t.bytes ≡ m.bytes = two.2 ∙ one.same in
+        let same : t.bytes ≡ m.bytes = two.2 ∙ count_same one in
         record {
           ready =
               ready_with z (counted x (i + 1) (one_iteration i env)) u t
@@ -194,7 +239,7 @@ module _ (z : Setting) (depth x h : ℕ) (known : slice_get z.declared x ≡ Som
               two.3;
           there = subst There (sym same) (keeps s m shown.hidden given.there);
           last = given.last;
-          five = two.1 ∙ ap (λ v. word_of (nat_lt v limit)) (one.there ∙ more);
+          five = two.1 ∙ ap (λ v. word_of (nat_lt v limit)) (count_there one ∙ more);
           hidden = hidden_then z (depth + 1) s m t shown.hidden (hidden_by z (depth + 1) m t same);
         })
         (quiet
@@ -204,7 +249,7 @@ module _ (z : Setting) (depth x h : ℕ) (known : slice_get z.declared x ≡ Som
         (weaken {P' = λ env s. HeldAt z s × There s.bytes} (λ env s fine given. given.0)
         (λ env s t fine given done. done)
         (added h 1 (omega (arith, home_low)) (omega (arith, home_high)) (omega arith)))
-        tests (λ env s t given done. (done.held, subst There (sym done.same) given.1)))
+        tests (λ env s t given done. (done.second.held, subst There (sym (count_same done)) given.1)))
         (λ env s t given shown. (shown.ready.held, keeps s t shown.hidden given.there)))
 
     abbrev Inv : ℕ → ℕ → StraightState → machine.State → machine.State → Type 0
@@ -226,9 +271,9 @@ module _ (z : Setting) (depth x h : ℕ) (known : slice_get z.declared x ≡ Som
         (hidden_by z depth t u still.bytes))
 
     all_iterations : (left i : ℕ)
-        → Runs z ((left + 1) * (n + (1 + c) + 1))
+        → Runs z ((left + 1) * (n + (3 + c) + 1))
         (λ env. path_of_iterations (suc left) i one_iteration iteration_path env)
-        (again_code 5 (ys ++ instr.Immediate Addi h h 1 ∷ test)) (λ env s. Inv left i env s s)
+        (again_code 5 (ys ++ (instr.Immediate Addi h h 1 ∷ (follow ++ test)))) (λ env s. Inv left i env s s)
         (λ env s t. Over (iterations (suc left) i one_iteration env) s t)
     all_iterations left i =
         repeating {z = setting z} 5 0 (omega arith)
@@ -260,9 +305,9 @@ module _ (z : Setting) (depth x h : ℕ) (known : slice_get z.declared x ≡ Som
 
     -- one iteration more than so many, the first at this number
     pub iterations_runs : (left i : ℕ)
-        → Runs z ((left + 1) * (n + (1 + c) + 1) + 1)
+        → Runs z ((left + 1) * (n + (3 + c) + 1) + 3)
         (λ env. path_of_iterations (suc left) i one_iteration iteration_path env)
-        (iterations_code h test ys) (Iteration left i)
+        (iterations_code h follow test ys) (Iteration left i)
         (λ env s t. Finished (iterations (suc left) i one_iteration env) s t)
     iterations_runs left i =
         gives
@@ -276,7 +321,7 @@ module _ (z : Setting) (depth x h : ℕ) (known : slice_get z.declared x ≡ Som
         ∙ omega (arith, over.small) in (
           ready_back k (k + 1) e t over.is
               (numbered (omega (arith, over.small)) (counted x (k + 1) e) m t over.ready done.second less),
-          hidden_then z depth s m t over.hidden (hidden_by z depth m t done.second.same),
+          hidden_then z depth s m t over.hidden (hidden_by z depth m t (count_same done.second)),
         ))
         (quiet
         (weaken {P' = Iteration left i} (λ env s fine given. (given, λ o low high. refl))
@@ -290,16 +335,16 @@ module _ (z : Setting) (depth x h : ℕ) (known : slice_get z.declared x ≡ Som
     Starting r i env s = Ready z env s × (s.regs r ≡ i) × There s.bytes
 
     arm_runs : (r left i : ℕ) → 4 < r → r < 32 → i + left + 1 ≡ limit
-        → Runs z (1 + ((left + 1) * (n + (1 + c) + 1) + 1))
+        → Runs z (3 + ((left + 1) * (n + (3 + c) + 1) + 3))
         (λ env. path_of_iterations (suc left) i one_iteration iteration_path env)
-        (move_code h r ++ iterations_code h test ys)
+        ((move_code h r ++ follow) ++ iterations_code h follow test ys)
         (Starting r i)
         (λ env s t. Finished (iterations (suc left) i one_iteration env) s t)
     arm_runs r left i low few last =
         gives
         (λ env s t fine given done. (
           done.second.0,
-          hidden_then z depth s done.middle t (hidden_by z depth s done.middle done.first.same) done.second.1,
+          hidden_then z depth s done.middle t (hidden_by z depth s done.middle (count_same done.first)) done.second.1,
         ))
         (quietly
         (weaken {P' = Starting r i}
@@ -308,17 +353,17 @@ module _ (z : Setting) (depth x h : ℕ) (known : slice_get z.declared x ≡ Som
         (iterations_runs left i)
         (λ env s t given done. record {
           ready = numbered (omega (arith, limited s.bytes given.2, last)) env s t given.0 done given.1;
-          there = subst There (sym done.same) given.2;
+          there = subst There (sym (count_same done)) given.2;
           last = last;
         }))
 
-    arm_near : (r : ℕ) → 2 * (length (move_code h r ++ iterations_code h test ys) + 0) + 8 < 2 ^ 19
-    arm_near r = omega (arith, near, length-append {A = Instr}, move_length h r)
+    arm_near : (r : ℕ) → 2 * (length ((move_code h r ++ follow) ++ iterations_code h follow test ys) + 0) + 8 < 2 ^ 19
+    arm_near r = omega (arith, near, length-append {A = Instr}, move_length h r, follow_length)
 
     pub guarded_runs : (b r : ℕ) → 4 < b → b < 32 → 4 < r → r < 32 → (left i : ℕ) → i + left ≡ limit → (k : ℕ)
         → left ≤ k
-        → Runs z (2 + (1 + (k * (n + (1 + c) + 1) + 1)) + 0)
-        (λ env. path_of_iterations left i one_iteration iteration_path env) (guarded_code b h r test ys)
+        → Runs z (2 + (3 + (k * (n + (3 + c) + 1) + 3)) + 0)
+        (λ env. path_of_iterations left i one_iteration iteration_path env) (guarded_code b h follow r test ys)
         (Guarded z There b r left i)
         (λ env s t. Finished (iterations left i one_iteration env) s t)
     guarded_runs b r low high low' high' zero i last k few =
@@ -355,7 +400,7 @@ module _ (z : Setting) (depth x h : ℕ) (known : slice_get z.declared x ≡ Som
         (λ env s u none' given still. ready_still z env s u given.ready still)
         (λ env s u v none' given still done. absurd (omega (arith, none')))
         (cheaper
-        (let e = mul-le (left + 1) (n + (1 + c) + 1) k (n + (1 + c) + 1) (omega (arith, few)) (omega arith) in
+        (let e = mul-le (left + 1) (n + (3 + c) + 1) k (n + (3 + c) + 1) (omega (arith, few)) (omega arith) in
         omega (arith, e))
         (arm_runs r left i low' high' (omega (arith, last))))
         (idle (λ env s ready. (ready, λ o from to. refl)))

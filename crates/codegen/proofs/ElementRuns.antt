@@ -23,7 +23,10 @@ use Rattle.codegen.proofs.Machine.{stored_register, height_of_put}
 use Rattle.codegen.proofs.Slots.{StateShown, suits_fits, wrote_as, hidden_valued, hidden_then, ready_same, ready_put}
 use Rattle.codegen.proofs.Slots.{offered_put, offered_low, offered_runs, ready_offered}
 use Rattle.codegen.specs.Below.{register}
-use Rattle.codegen.specs.private.Emitted.{into_element_code, put_value_code}
+use Rattle.codegen.specs.private.Emitted.{into_element_code, into_near_code, put_value_code}
+use Rattle.codegen.proofs.Machine.{NearPlace}
+use Rattle.codegen.proofs.Logic.{weaken}
+use Rattle.codegen.proofs.Elements.{At, base_small, Reached, stores_near}
 use Rattle.codegen.specs.private.StoredValues.{stored_value}
 use Rattle.codegen.proofs.StoredValues.{IsCutTo, stored_cut, stored_height, stored_nodes, stored_path}
 use Rattle.codegen.proofs.Elements.{ElementAccess, addressed_at, at_element, element_at, kind_is, put_at, store_bytes}
@@ -142,9 +145,43 @@ module _ (z : Setting) (depth : ℕ) (place : Place) (x size : ℕ) (index value
       (omega (arith, (value_source z access).low)) i below)
       (λ env s t aimed done. (done.held, done.address))))))
 
-  -- where the store holds the element's offset the value is read as a first temporary
-  abbrev near_stored : ℕ → List Instr
-  near_stored o = into_element_code (layout_of z) kind o put_value
+  -- where the store reaches the element at once the value is read as a first temporary
+  abbrev near_stored : NearPlace → List Instr
+  near_stored place = into_near_code (layout_of z) kind place put_value
+
+  near_one : (place : NearPlace) → Reached z access place → (i : ℕ) → i < size
+      → Runs z (16 * term_nodes value + 1) (steps_of value) (near_stored place) (At z access i)
+      (StateShown z depth (λ env. with_element env x i (value_in env.variables value)))
+  near_one place reached i below =
+      let r = stored_register z.allocation put_value in
+      let d = array_as typed.word typed.mutable size in
+      let lies = array_lies z x size typed.word typed.mutable typed.known in
+      let at = element_at z access i in
+      along (λ env. sym (stored_path z.allocation kind value env.variables))
+      (cheaper (omega (arith, nodes))
+      (gives {P = At z access i}
+      (λ env s t fine given done.
+      let m = done.middle in
+      let v = value_in env.variables value in
+      let w = value_in env.variables put_value in
+      let ready = given.given in
+      let fits = suits_fits z.code.profile z.declared typed.word value env.variables ready.fits typed.suits in
+      let wrote = wrote_as z (element_bytes kind) at (register m.regs r) w m t done.first.there done.second in
+      record {
+        ready = ready_put z x i v w d typed.known (z.allocated.words x d size typed.known refl) below fits env m t
+            (ready_offered z put_value env s m ready done.first) wrote (is_cut.cut env.variables fits);
+        hidden = hidden_valued z depth within put_value env (element_bytes kind) at w s m t
+            (omega (arith, place_before z x d i lies below)) done.first wrote;
+      })
+      (quiet
+      (weaken {P' = At z access i} (λ env s fine given. given.given) (λ env s t fine given done. done)
+      (offered_runs z is_cut.has_type (omega (arith, put_room))))
+      (stores_near z access r (omega (arith, offered_low z put_value)) i below place (base_small z access place reached)
+      reached.near)
+      (λ env s t given offered. (
+        offered.held,
+        reached.at i below env t (ready_offered z put_value env s t given.given offered) given.is,
+      )))))
 
   pub put_runs : Puts z access None value (statement_code (layout_of z) depth
       (straight.put None place x size index value))
@@ -152,11 +189,7 @@ module _ (z : Setting) (depth : ℕ) (place : Place) (x size : ℕ) (index value
       as_code
       (ap (λ k. put_value_code (layout_of z) k x index (stored_value z.allocation k value))
       (kind_is z access))
-      (put_by z access None value (omega arith) near_stored
-      (λ i o below is near.
-      as_code (ap near_stored (sym is))
-      (one_at z depth within x size typed.word typed.mutable typed.known i value below typed.suits (omega arith)))
-      put_far)
+      (put_by z access None value (omega arith) near_stored near_one put_far)
 
 -- All elements, at fixed places.
 

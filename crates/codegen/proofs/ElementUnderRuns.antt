@@ -1,13 +1,13 @@
 -- The code that sets an element of an array where a control value is true.
 use Rattle.std.proofs.Common.{◌≡◌, ℕ, ◌+◌, ◌*◌, ◌%◌, ◌^◌, ◌<◌, ◌≤◌, ◌==◌, false, if◌then◌else◌, [], ◌∷◌, ◌++◌, Some}
 use Rattle.std.proofs.Common.{slice_index, refl, sym, ap, ◌∙◌, subst, arith, inl, inr}
-use Rattle.codegen.proofs.Language.{FlatVariable, StraightState, with_element, element_bytes, TermTree, array_as}
+use Rattle.codegen.proofs.Language.{FlatVariable, StraightState, with_element, TermTree, array_as}
 use Rattle.codegen.proofs.Language.{term_nodes, value_in, after, IsElementSet, Kind, bits_of, Place, types_of}
 use Rattle.codegen.proofs.Logic.{lower_fits, steps_of, homes_beside, load_bytes, load_plain, loading, place_of}
 use Rattle.codegen.proofs.Logic.{layout_of}
 use Rattle.codegen.proofs.Logic.{place_even, place_ends, Setting, base_of, none, Runs, gives, cheaper, as_code}
-use Rattle.codegen.proofs.Logic.{number_or_zero, Ready, Wrote, near_address, Fetched, free_from, weaken}
-use Rattle.codegen.proofs.Machine.{code_by, near_element, slots_to, load_by, number_at, sign_extended, sum_of}
+use Rattle.codegen.proofs.Logic.{number_or_zero, Ready, Fetched, free_from, weaken}
+use Rattle.codegen.proofs.Machine.{code_by, near_place, NearPlace, slots_to, load_by, number_at, sign_extended, sum_of}
 use Rattle.codegen.proofs.Machine.{put_under_code, put_under_near_code, statement_code}
 use Rattle.codegen.proofs.Machine.{control_location, is_unread, Location, lower_part, address_of, index_code}
 use Rattle.codegen.proofs.Machine.{read_register, height_of_put}
@@ -17,7 +17,9 @@ use Rattle.codegen.proofs.Slots.{StateShown, suits_fits, ready_with, read_source
 use Rattle.codegen.proofs.Masks.{mask_apart, mask_free, mask_register}
 use Rattle.codegen.proofs.Elements.{ElementAccess, addressed_at, at_element, away, kind_is, lies, stores, value_beside}
 use Rattle.codegen.proofs.Elements.{value_source, put_by, Puts, put_access}
-use Rattle.codegen.proofs.ElementRuns.{offered_element}
+use Rattle.codegen.proofs.Elements.{At, base_small, Reached, stores_near}
+use Rattle.codegen.specs.Below.{register}
+use Rattle.std.proofs.Common.{◌≢◌}
 use Rattle.codegen.proofs.UnderRuns.{number_under, read_begun, merges}
 use Rattle.codegen.proofs.Logic.{AreOfKinds}
 use Rattle.codegen.proofs.expression_code_lemmas.Moves.{is_left, is_written}
@@ -116,52 +118,57 @@ module _ (z : Setting) (depth : ℕ) (place : Place) (x size : ℕ) (index value
       ))
       (addressed_at z access i below)))))
 
-  -- where the load and the store hold the element's offset
-  under_near : (i o : ℕ) → i < size → place_at i ≡ o → o < 2048
+  -- where the load and the store reach the element at once
+  under_near : (near : NearPlace) → Reached z access near → (i : ℕ) → i < size
       → Runs z (16 * term_nodes value + 10) (steps_of value)
-      (put_under_near_code (layout_of z) control_at kind o value) (Ready z)
+      (put_under_near_code (layout_of z) control_at kind near value) (At z access i)
       (StateShown z depth (λ env. if env.controls c then with_element env x i (new_value env) else env))
-  under_near i o below is near =
+  under_near near reached i below =
       let r = read_register z.allocation 5 value in
       let source = read_source z value 5 (omega arith) (omega arith) in
       let k = mask_register z c 7 in
       let five = free_from 5 (omega arith) (omega arith) in
       let six = free_from 6 (omega arith) (omega arith) in
-      let h = place_ends z x array i (lies z access) below in
       cheaper (omega arith)
       (number_under z depth within c among read x i array typed.known (away z access) below new_value new_fits
-      {New = λ regs v. regs r ≡ v} {Aims = λ regs. Unit {0}} 6 7 5 (omega arith) (omega arith)
+      {New = λ regs v. regs r ≡ v} {Aims = λ regs. address_of regs near.base near.offset ≡ z.frame + place_at i} 6 7 5
+      (omega arith) (omega arith)
       (free_from 7 (omega arith) (omega arith)) five (omega arith) (inl (omega arith))
       (λ regs after v same there. same r (source_apart z source 6 (omega arith) (omega arith))
       (source_apart z source 7 (omega arith) (omega arith)) ∙ there)
-      (λ regs after same aims. aims)
-      (weaken
-      (λ env s fine given. (
-        given.0,
-        ap (λ b. sum_of b (sign_extended 12 o)) given.0.held.base
-            ∙ (near_address z.frame o near (omega arith) ∙ ap (λ a. z.frame + a) (sym is)),
-      ))
-      (λ env s t fine given done. done)
-      (old_runs i 2 o 6 below (omega arith) (omega arith) (omega arith) (omega arith)))
+      (λ regs after same aims. ap (λ b. sum_of b (sign_extended 12 near.offset))
+      (read_same regs after near.base (same near.base (beside 6 (omega arith) (omega arith))
+      (beside 7 (omega arith) (omega arith)) (beside 5 (omega arith) (omega arith)))) ∙ aims)
+      (old_runs i near.base near.offset 6 below (omega (arith, base_small z access near reached))
+      (omega (arith, reached.near)) (omega arith) (omega arith))
       (merges (λ q. q == 5) 5 5 6 k refl refl five five six (mask_free z c 7 (omega arith) (omega arith))
       (omega arith) (mask_apart z c 7 5 (omega arith) (omega arith)) r
       (free_from r source.low (omega arith)))
-      (weaken
-      (λ env s fine given. given.0)
-      (λ env s t fine given wrote. subst (λ a. Wrote z (element_bytes kind) a (s.regs 5) s t) (sym is) wrote)
-      (offered_element z 5 (omega arith) kind o
-      (ap (λ a. a % element_bytes kind) (sym is) ∙ place_even z.laid x array i) (omega arith)))
-      (gives (λ env s t fine ready done. (done, tt))
-      (read_begun z depth within c among read typed.suits.has_type (omega arith))))
+      (stores_near z access 5 (omega arith) i below near (base_small z access near reached) reached.near)
+      (gives {P = At z access i}
+      (λ env s t fine given done. (done, reached.at i below env t done.0 given.is))
+      (weaken {P' = At z access i} (λ env s fine given. given.given) (λ env s t fine given done. done)
+      (read_begun z depth within c among read typed.suits.has_type (omega arith)))))
+    where
+      -- the base is no temporary
+      beside : (q : ℕ) → 4 < q → q < 8 → near.base ≢ q
+      beside q low high e =
+          elim reached.base [
+            | inl frame ↦ omega (arith, frame, low, e)
+            | inr home ↦ omega (arith, z.allocated.some, home.0, high, e)
+          ]
+
+      read_same : (regs after : ℕ → ℕ) (r : ℕ) → after r ≡ regs r → register after r ≡ register regs r
+      read_same regs after r same = ap (λ v. if r == 0 then 0 else v) same
 
   pub put_under_runs : Puts z access (Some c) value (statement_code (layout_of z) depth
       (straight.put (Some c) place x size index value))
   put_under_runs =
       as_code
-      (ap (λ k. code_by (near_element z.laid z.allocation x index)
-      (λ o. put_under_near_code (layout_of z) control_at k o value)
+      (ap (λ k. code_by (near_place z.laid z.allocation x index)
+      (λ near. put_under_near_code (layout_of z) control_at k near value)
       (index_code (layout_of z) access.part value
       ++ put_under_code (read_register z.allocation 5 access.part) (read_register z.allocation 6 value) control_at k offset))
       (kind_is z access))
       (put_by z access (Some c) value (omega arith)
-      (λ o. put_under_near_code (layout_of z) control_at kind o value) under_near under_far)
+      (λ near. put_under_near_code (layout_of z) control_at kind near value) under_near under_far)

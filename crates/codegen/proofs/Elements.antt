@@ -1,21 +1,23 @@
 -- Where an element of an array lies, and how its index and a value for it come into registers.
 use Rattle.std.proofs.Common.{◌≡◌, ℕ, ◌+◌, ◌*◌, ◌%◌, ◌^◌, ◌<◌, ◌≤◌, Bool, if◌then◌else◌, List, [], ◌∷◌, ◌++◌, Option}
-use Rattle.std.proofs.Common.{None, Some, slice_get, refl, sym, ap, ap₂, subst, ◌∙◌, arith, ◌≢◌, append_assoc}
+use Rattle.std.proofs.Common.{None, Some, slice_get, refl, sym, ap, ap₂, subst, ◌∙◌, arith, ◌≢◌, append_assoc, inl, inr}
 use Rattle.codegen.proofs.Language.{FlatVariable, StraightState, with_element, element_bytes, TermTree, array_as}
 use Rattle.codegen.proofs.Language.{term_nodes, value_in, path_in, indexed, WordType, Kind, Boolean, bits_of, Place}
-use Rattle.codegen.proofs.Language.{TermHasType, holds, path_at, put, IsElementSet, types_of}
+use Rattle.codegen.proofs.Language.{counter_type, TermHasType, holds, path_at, put, IsElementSet, types_of}
 use Rattle.codegen.proofs.Logic.{register-at, lower_fits, Addressed, address_runs, array_lies, steps_of, kind_known}
 use Rattle.codegen.proofs.Logic.{HomesKept}
 use Rattle.codegen.proofs.Logic.{layout_of}
 use Rattle.codegen.proofs.Logic.{homes_by, HeldAt, free_from, storing, place_of, place_even, place_before, place_ends}
-use Rattle.codegen.proofs.Logic.{Setting, setting, base_of, MarkKnown, by_index, by_known_index, by_option, none, Runs}
-use Rattle.codegen.proofs.Logic.{quiet, weaken, gives, as_code, Ready, Wrote, NearElement, near_known, known, along}
+use Rattle.codegen.proofs.Logic.{Before, Setting, setting, base_of, IsReached, MarkKnown, by_index, by_option, none, Runs}
+use Rattle.codegen.proofs.Logic.{quiet, weaken, gives, as_code, Ready, Wrote, place_reached, along}
 use Rattle.codegen.proofs.Logic.{cheaper, computed_part, IsPart}
-use Rattle.codegen.proofs.Machine.{store_by, slots_to, kind_at, Instr, variable_offset, home_of, lower_part, store_size}
+use Rattle.codegen.proofs.Machine.{store_by, slots_to, kind_at, Instr, home_of, lower_part, store_size}
 use Rattle.codegen.proofs.Machine.{address_of, byte_count, index_code, read_code, read_register, height_of_put}
-use Rattle.codegen.proofs.Machine.{access_offset, address_code, code_by, computed_index, near_element, with_number}
+use Rattle.codegen.proofs.Machine.{access_offset, address_code, code_by, computed_index, near_place, NearPlace, with_number}
 use Rattle.rv_code.specs.declared.instructions.Instr.TheVariants as instr
 use Rattle.rv_machine.specs.Machine as machine
+use Rattle.codegen.specs.Below.{register}
+use Rattle.codegen.specs.private.Emitted.{near_store_code}
 use Rattle.codegen.proofs.PairRuns.{FirstRead, read_then, second_runs}
 use Rattle.codegen.proofs.Slots.{StateShown, ready_with, IsSourceRegister, read_source, source_apart, Hidden}
 use Rattle.codegen.proofs.Slots.{hidden_then, hidden_by, hidden_kept, hidden_wrote, ready_put}
@@ -37,6 +39,7 @@ pub record ElementAccess (z : Setting) : Type 0 where
   pub mutable : Bool
   pub known : slice_get z.declared x ≡ Some (array_as word mutable size)
   pub index : TermTree
+  pub index_type : TermHasType (types_of z.code.profile z.declared) index counter_type
   pub part : TermTree
   pub offset : ℕ
   pub computed : IsPart z x size word mutable index part offset
@@ -60,6 +63,7 @@ put_access z depth within place x size index typed e own has room = record {
   mutable = typed.mutable;
   known = typed.known;
   index = index;
+  index_type = typed.index_type;
   part = computed_index z.laid z.allocation x index;
   offset = access_offset z.laid z.allocation x index;
   computed = computed_part z x size typed.word typed.mutable typed.known typed.index_type refl;
@@ -137,6 +141,24 @@ module _ (z : Setting) (access : ElementAccess z) where
       (free_from index_register index_source.low (omega (arith, index_source.high))) (omega arith)
       kind offset part_of (λ env. element_at i))
 
+  -- a register into an element that is reached at once
+  pub stores_near : (r : ℕ) → r < 32 → (i : ℕ) → i < access.size → (place : NearPlace) → place.base < 28
+      → place.offset < 2048
+      → Runs z 1 none (near_store_code r kind place) (λ env s. HeldAt z s
+      × (address_of s.regs place.base place.offset ≡ z.frame + element_at i))
+      (λ env s t. Wrote z (element_bytes kind) (element_at i) (register s.regs r) s t)
+  stores_near r small i below place base near =
+      let n = store_bytes kind in
+      gives
+      (λ env s t fine given done. record {
+        held = done.0;
+        written = done.1.bytes ∙ ap (λ m. with_number s.bytes m (z.frame + element_at i) (register s.regs r)) n;
+        homes = homes_by z s t done.1.regs;
+      })
+      (storing z place.base place.offset (element_at i) (omega (arith, base)) (omega (arith, near)) (store_by kind) r
+      small (ap (λ m. element_at i % m) n ∙ place_even z.laid access.x array i)
+      (omega (arith, place_ends z access.x array i lies below)))
+
   -- a register into an element
   pub stores : (r : ℕ) → r < 32 → r ≢ 0 → (i : ℕ) → i < access.size
       → Runs z 1 none (instr.Store (store_by kind) r 5 (lower_part offset) ∷ []) (λ env s. HeldAt z s
@@ -211,10 +233,16 @@ module _ (z : Setting) (access : ElementAccess z) where
   pub kind_is : kind_at z.laid access.x ≡ kind
   kind_is = kind_known z.laid access.x array lies
 
-  -- where an access whose instruction holds the element's offset finds it
-  near_at : (o : ℕ) (near : NearElement z.laid access.x access.index o) → element_at near.i ≡ o
-  near_at o near =
-      ap (λ k. variable_offset z.laid access.x + element_bytes k * near.i) (sym kind_is) ∙ near.at
+  -- a place where an access reaches the element at once
+  abbrev pub Reached : NearPlace → Type 0
+  Reached place = IsReached z access.x access.size access.word access.mutable access.index place
+
+  pub base_small : (place : NearPlace) → Reached place → place.base < 28
+  base_small place reached = elim reached.base [ inl frame ↦ omega arith | inr home ↦ omega arith ]
+
+  -- the index is this one
+  abbrev pub At : ℕ → Before
+  At i = MarkKnown (setting z) ℕ (λ j. j < access.size) (Ready z) number_of i
 
   -- An element that is set to a value, where an enclosing control value is true.
   module _ (within : Option ℕ) (value : TermTree) where
@@ -229,28 +257,28 @@ module _ (z : Setting) (access : ElementAccess z) where
         (λ env. path_at env (put within access.place access.x access.size access.index value)) code (Ready z)
         (StateShown z access.depth (λ env. put_with (number_of env) env))
 
-    -- the code where its store holds the element's offset, and what that does at each index
-    module _ {n : ℕ} (few : n ≤ 32 * (1 + term_nodes value)) (code : ℕ → List Instr)
-        (one : (i o : ℕ) → i < access.size → element_at i ≡ o → o < 2048
-        → Runs z n (steps_of value) (code o) (Ready z) (StateShown z access.depth (put_with i))) where
-      module _ (o : ℕ) (near : NearElement z.laid access.x access.index o) where
-        near_runs : Puts (code o)
-        near_runs =
-            let number_is = λ (env : StraightState). known access.index near.i near.is env.variables in
-            along (λ env. ap (λ p. p ++ indexed access.place access.size (number_of env)
-            ∷ path_in env.variables value) (number_is env).1)
-            (cheaper (omega arith)
-            (by_known_index z access.place access.size number_of near.i (λ env. (number_is env).0)
-            (λ below. gives
-            (λ env s t fine ready done. record {
-              ready = subst (λ j. Ready z (put_with j env) t) (sym (number_is env).0) done.ready;
-              hidden = done.hidden;
-            })
-            (one near.i o below (near_at o near) near.near))))
+    -- the code where its access reaches the element at once, and what that does at each index
+    module _ {n : ℕ} (few : n ≤ 32 * (1 + term_nodes value)) (code : NearPlace → List Instr)
+        (one : (place : NearPlace) → Reached place → (i : ℕ) → i < access.size
+        → Runs z n (steps_of value) (code place) (At i) (StateShown z access.depth (put_with i))) where
+      near_runs : (place : NearPlace) → Reached place → Puts (code place)
+      near_runs place reached =
+          along (λ env. ap (λ p. p ++ indexed access.place access.size (number_of env) ∷ path_in env.variables value)
+          (reached.quiet env.variables))
+          (cheaper (omega arith)
+          (by_index z {P = Ready z} access.place access.size number_of
+          (λ i below. gives {P = At i}
+          (λ env s t fine given done. record {
+            ready = subst (λ j. Ready z (put_with j env) t) (sym given.is) done.ready;
+            hidden = done.hidden;
+          })
+          (one place reached i below))))
 
       -- of that code and the one for an index in a register, the one that is emitted
       pub put_by : {far : List Instr} → Puts far
-          → Puts (code_by (near_element z.laid z.allocation access.x access.index) code far)
+          → Puts (code_by (near_place z.laid z.allocation access.x access.index) code far)
       put_by far_runs =
-          by_option (near_element z.laid z.allocation access.x access.index)
-          (λ o is. near_runs o (near_known z.laid z.allocation access.x access.index o is)) (λ none. far_runs)
+          by_option (near_place z.laid z.allocation access.x access.index)
+          (λ place is. near_runs place
+          (place_reached z access.x access.size access.word access.mutable access.known access.index_type refl place is))
+          (λ none. far_runs)

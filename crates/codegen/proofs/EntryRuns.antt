@@ -1,7 +1,7 @@
 -- The code that begins a program: each home gets what lies in its word's slot, or 0 where there is none.
 use Rattle.std.proofs.Common.{◌≡◌, ◌≢◌, ℕ, zero, suc, ◌+◌, ◌-◌, ◌*◌, ◌%◌, ◌<◌, ◌≤◌, Bool, true, false, cond, nat_lt}
 use Rattle.std.proofs.Common.{below_more, List, [], ◌∷◌, length, get_or, Option, None, Some, slice_get, slice_index}
-use Rattle.std.proofs.Common.{refl, sym, ap, ap₂, ◌∙◌, subst, arith}
+use Rattle.std.proofs.Common.{refl, sym, ap, ap₂, ◌∙◌, subst, arith, ◌++◌, unwrap_or}
 use Rattle.std.proofs.lemmas.Bool.{true≢false}
 use Rattle.std.proofs.lemmas.Option.{slice_get-get_or}
 use Rattle.codegen.proofs.CountingRuns.{one_computed}
@@ -10,7 +10,13 @@ use Rattle.codegen.proofs.Logic.{at_control, bytes_by, bytes_of, cheaper, gives,
 use Rattle.codegen.proofs.Logic.{move_runs, nat_tests, none, none-some, slice_get_within, number_or_zero, same_Some}
 use Rattle.codegen.proofs.Logic.{place_ends, place_of, quiet, Ready, Runs, Setting, take, unwritten, weaken, written}
 use Rattle.codegen.proofs.Machine.{ByteMap, constant_code, control_offset, entry_code, first_code, home_count, home_of}
-use Rattle.codegen.proofs.Machine.{load_code, number_at, variable_offset, word_offset}
+use Rattle.codegen.proofs.Machine.{load_code, Mirror, mirror_by, mirror_of, number_at, sum_of, variable_offset}
+use Rattle.codegen.proofs.Machine.{word_offset}
+use Rattle.codegen.proofs.Language.{element_bytes}
+use Rattle.codegen.proofs.Logic.{as_code, mirror_register}
+use Rattle.codegen.proofs.Mirroring.{Mirrored, mirror_runs}
+use Rattle.codegen.specs.private.Generated.{mirror_count, mirrors_code}
+use Rattle.codegen.specs.expression_code.Allocation.{mirror_if}
 use Rattle.codegen.proofs.Slots.{Laid, laid_same}
 use Rattle.codegen.specs.private.Homes.{is_no_array, is_word}
 use Rattle.rv_code.specs.declared.instructions.Instr.TheVariants as instr
@@ -32,6 +38,13 @@ array_there : (ds : List FlatVariable) (x : ℕ) → is_no_array (slice_get ds x
 array_there [] x is = absurd (true≢false is)
 array_there (d ∷ ds) zero is = omega arith
 array_there (d ∷ ds) (suc x) is = omega (arith, array_there ds x is)
+
+-- a mirror that there is is in the list
+listed : (mirrors : List (Option Mirror)) (x : ℕ) (mirror : Mirror)
+    → unwrap_or (slice_get mirrors x) None ≡ Some mirror → x < length mirrors
+listed [] x mirror is = absurd (none-some mirror is)
+listed (m ∷ mirrors) zero mirror is = omega arith
+listed (m ∷ mirrors) (suc x) mirror is = omega (arith, listed mirrors x mirror is)
 
 module _ (z : Setting) (within : length z.allocation.homes ≤ length z.laid + z.controls) where
   abbrev homes : List (Option ℕ)
@@ -201,13 +214,123 @@ module _ (z : Setting) (within : length z.allocation.homes ≤ length z.laid + z
       let same : variables + c - variables ≡ c = omega arith in
       rw (behind, same)
 
-  -- all homes are filled: so what is laid is shown
-  pub entry_runs : Runs z (3 * home_count homes) none (entry_code z.laid 0 homes) (Laid z)
-      (λ env s t. Ready z env t)
+  -- Mirrors.
+
+  -- the mirrors of words before this one follow them
+  record Followed (x : ℕ) (env : StraightState) (s : machine.State) : Type 0 where
+    entered : Entered (length homes) env s
+    mirrored : (y : ℕ) → y < x → (home : ℕ) (mirror : Mirror) → mirror_of z.allocation y ≡ Some mirror
+        → home_of homes y ≡ Some home
+        → s.regs mirror.register ≡ sum_of (element_bytes mirror.kind * s.regs home) z.frame
+
+  abbrev mirror_at : ℕ → Option Mirror
+  mirror_at x = unwrap_or (slice_get z.allocation.mirrors x) None
+
+  -- the next one follows its word
+  followed_more : (x : ℕ) (env : StraightState) (s t : machine.State) → Followed x env s → Mirrored z x s t
+      → Followed (x + 1) env t
+  followed_more x env s t followed done =
+      let kept : (y home : ℕ) → home_of homes y ≡ Some home → t.regs home ≡ s.regs home =
+      λ y home at. done.others home (λ e. omega (arith, (z.allocated.allowed y home at).1, e))
+      (λ mirror is. z.allocated.mirror_apart x y home mirror is at) in
+      record {
+        entered = record {
+          laid = laid_same z z.size (omega (arith, z.room)) env s t followed.entered.laid done.held
+              (λ o below. ap (λ (b : ByteMap). b (z.frame + o)) done.same);
+          homed = λ y below home at. kept y home at ∙ followed.entered.homed y below home at;
+        };
+        mirrored =
+            below_more (λ y. (home : ℕ) (mirror : Mirror) → mirror_of z.allocation y ≡ Some mirror
+            → home_of homes y ≡ Some home
+            → t.regs mirror.register ≡ sum_of (element_bytes mirror.kind * t.regs home) z.frame) x
+            (λ y less home mirror is at.
+            done.others mirror.register (λ e. omega (arith, (mirror_register z y mirror is).1, e))
+            (λ own is' e. omega (arith, less, z.allocated.mirrors_apart y x mirror own is is' e))
+            ∙ (followed.mirrored y less home mirror is at
+            ∙ ap (λ w. sum_of (element_bytes mirror.kind * w) z.frame) (sym (kept y home at))))
+            (λ home mirror is at. done.there home mirror is at
+            ∙ ap (λ w. sum_of (element_bytes mirror.kind * w) z.frame) (sym (kept x home at)));
+      }
+
+  abbrev Follows : ℕ → ℕ → Option Mirror → Type 0
+  Follows cost x m = Runs z cost none (mirror_by (home_of homes x) m) (Followed x) (λ env s t. Followed (x + 1) env t)
+
+  same_code : (h : Option ℕ) (m : Option Mirror) → mirror_by h m ≡ mirror_by h (mirror_if h m)
+  same_code None m = refl
+  same_code (Some home) m = refl
+
+  one_follows : (x : ℕ) (m : Option Mirror) → mirror_at x ≡ m → Follows 2 x m
+  one_follows x m own =
+      let h = home_of homes x in
+      as_code (same_code h m ∙ ap (λ (n : Option Mirror). mirror_by h (mirror_if h n)) (sym own))
+      (weaken
+      (λ env s fine followed. followed.entered.laid.held)
+      (λ env s t fine followed done. followed_more x env s t followed done)
+      (mirror_runs z x))
+
+  -- a word without a mirror is passed by
+  no_code : (h : Option ℕ) → mirror_by h None ≡ []
+  no_code None = refl
+  no_code (Some home) = refl
+
+  no_mirror : (h : Option ℕ) (mirror : Mirror) → mirror_if h None ≡ Some mirror → ⊥
+  no_mirror None mirror is = none-some mirror is
+  no_mirror (Some home) mirror is = none-some mirror is
+
+  none_follows : (x : ℕ) → mirror_at x ≡ None → Follows 0 x None
+  none_follows x own =
+      let h = home_of homes x in
+      as_code (no_code h)
+      (idle (λ env s followed. record {
+        entered = followed.entered;
+        mirrored =
+            below_more (λ y. (home : ℕ) (mirror : Mirror) → mirror_of z.allocation y ≡ Some mirror
+            → home_of homes y ≡ Some home
+            → s.regs mirror.register ≡ sum_of (element_bytes mirror.kind * s.regs home) z.frame) x
+            followed.mirrored
+            (λ home mirror is at.
+            absurd (no_mirror h mirror (ap (λ (n : Option Mirror). mirror_if h n) (sym own) ∙ is)));
+      }))
+
+  follow : (rest : List (Option Mirror)) (x : ℕ) → ((y : ℕ) → mirror_at (x + y) ≡ unwrap_or (slice_get rest y) None)
+      → Runs z (2 * mirror_count rest) none (mirrors_code homes x rest) (Followed x)
+      (λ env s t. Followed (x + length rest) env t)
+  follow [] x are =
+      let end : x ≡ x + 0 = omega arith in
+      idle (λ env s followed. subst (λ n. Followed n env s) end followed)
+  follow (None ∷ rest) x are =
+      let end : x + 1 + length rest ≡ x + suc (length rest) = omega arith in
+      let here : x ≡ x + 0 = omega arith in
+      cheaper (omega arith)
+      (gives
+      (λ env s t fine followed done. subst (λ n. Followed n env t) end done.second)
+      (quiet (none_follows x (ap mirror_at here ∙ are 0))
+      (follow rest (x + 1) (λ y. let next : x + 1 + y ≡ x + suc y = omega arith in ap mirror_at next ∙ are (suc y)))
+      (λ env s t followed done. done)))
+  follow (Some mirror ∷ rest) x are =
+      let end : x + 1 + length rest ≡ x + suc (length rest) = omega arith in
+      let here : x ≡ x + 0 = omega arith in
+      cheaper (omega arith)
+      (gives
+      (λ env s t fine followed done. subst (λ n. Followed n env t) end done.second)
+      (quiet (one_follows x (Some mirror) (ap mirror_at here ∙ are 0))
+      (follow rest (x + 1) (λ y. let next : x + 1 + y ≡ x + suc y = omega arith in ap mirror_at next ∙ are (suc y)))
+      (λ env s t followed done. done)))
+
+  -- a word with a mirror is in the list
+  mirror_listed : (x home : ℕ) (mirror : Mirror) → mirror_of z.allocation x ≡ Some mirror
+      → home_of homes x ≡ Some home → x < length z.allocation.mirrors
+  mirror_listed x home mirror is at =
+      listed z.allocation.mirrors x mirror (ap (λ (h : Option ℕ). mirror_if h (mirror_at x)) (sym at) ∙ is)
+
+  -- all homes are filled, and all mirrors follow: so what is laid is shown
+  pub entry_runs : Runs z (3 * home_count homes + 2 * mirror_count z.allocation.mirrors) none
+      (entry_code z.laid 0 homes ++ mirrors_code homes 0 z.allocation.mirrors) (Laid z) (λ env s t. Ready z env t)
   entry_runs =
-      weaken
-      (λ env s fine laid. record { laid = laid; homed = λ y below. absurd (omega (arith, below)) })
-      (λ env s t fine laid done. record {
+      gives
+      (λ env s t fine laid both.
+      let done = both.second.entered in
+      record {
         held = done.laid.held;
         fits = done.laid.fits;
         homes_there = λ x home d is at. done.homed x (omega (arith, home_within homes x home at)) home at
@@ -217,5 +340,19 @@ module _ (z : Setting) (within : length z.allocation.homes ≤ length z.laid + z
             (λ home at. done.homed (variables + c) (omega (arith, home_within homes (variables + c) home at)) home at
             ∙ control_value env c)
             (λ away. done.laid.controls_there c below);
+        mirrors_there = λ x home mirror is at.
+            both.second.mirrored x (omega (arith, mirror_listed x home mirror is at)) home mirror is at;
       })
-      (from homes 0 (λ y. let same : 0 + y ≡ y = omega arith in ap (λ n. home_of homes n) same))
+      (quiet
+      (weaken
+      (λ env s fine laid. record { laid = laid; homed = λ y below. absurd (omega (arith, below)) })
+      (λ env s t fine laid done. done)
+      (from homes 0 (λ y. let same : 0 + y ≡ y = omega arith in ap (λ n. home_of homes n) same)))
+      (weaken
+      (λ env s fine followed. followed)
+      (λ env s t fine followed done. done)
+      (follow z.allocation.mirrors 0 (λ y. let same : 0 + y ≡ y = omega arith in ap mirror_at same)))
+      (λ env s t laid done. record {
+        entered = subst (λ n. Entered n env t) (omega arith) done;
+        mirrored = λ y below. absurd (omega (arith, below));
+      }))

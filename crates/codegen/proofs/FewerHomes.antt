@@ -1,9 +1,11 @@
 -- The code of what does not name some variables is the same where these have no homes.
-use Rattle.std.proofs.Common.{◌≡◌, ℕ, zero, suc, ◌+◌, ◌<◌, ◌≤◌, ◌==◌, ◌||◌, Bool, true, false, List, [], ◌∷◌, ◌++◌}
+use Rattle.std.proofs.Common.{◌≡◌, ℕ, suc, ◌+◌, ◌<◌, ◌≤◌, ◌==◌, ◌||◌, Bool, true, false, List, [], ◌∷◌, ◌++◌}
 use Rattle.std.proofs.Common.{length, Option, None, Some, refl, sym, ap, ap₂, ◌∙◌, arith, eq-eqb, if◌then◌else◌}
-use Rattle.std.proofs.Common.{is_some}
+use Rattle.std.proofs.Common.{is_some, slice_get, unwrap_or}
+use Rattle.std.proofs.lemmas.Option.{none-some}
 use Rattle.std.proofs.lemmas.Bool.{false_from_ne_true, or_parts, true≢false}
 use Rattle.codegen.proofs.Choices.{of_choice, when_not}
+use Rattle.codegen.proofs.HomesBut.{homes_left}
 use Rattle.codegen.proofs.Language.{array, branch, first, FlatVariable, nothing, put, repeats, set, element_bytes}
 use Rattle.codegen.proofs.Language.{StraightBlock, StraightTree, take, TermTree}
 use Rattle.codegen.proofs.Machine.{branching_code, condition_code, failing, home_count, operands_or, right_code, Frame}
@@ -17,7 +19,10 @@ use Rattle.codegen.specs.private.Fresh.{any_names, homes_but, names, names_in, n
 use Rattle.codegen.proofs.StoredValues.{stored_alike}
 use Rattle.codegen.specs.private.Emitted.{into_element_code, stored_value}
 use Rattle.codegen.specs.private.Loops.{any_sets, counting_home, loop_from, short_number}
-use Rattle.codegen.specs.expression_code.Allocation.{temporary, working_register}
+use Rattle.codegen.specs.expression_code.Allocation.{mirror_if, mirror_of, temporary, working_register}
+use Rattle.codegen.specs.declared.expression_code.allocation.Mirror.{Mirror}
+use Rattle.codegen.specs.declared.expression_code.emit.NearPlace.{NearPlace}
+use Rattle.codegen.specs.expression_code.TermCode.{mirror_by, mirror_code, mirrored_at, mirrored_place, near_or, near_place}
 use Rattle.codegen.specs.expression_code.TermCode.{access_offset, computed_index, into_by, is_at_home, keeps_words}
 use Rattle.codegen.specs.expression_code.TermCode.{code_by, indexed_code, near_code, near_element, operand}
 use Rattle.codegen.specs.expression_code.TermCode.{opposite_in, reached_code, sum_offset}
@@ -45,30 +50,13 @@ but a left_out = record {
   homes = homes_but left_out 0 a.homes;
   immediates = a.immediates;
   unread = a.unread;
+  mirrors = a.mirrors;
 }
-
-homes_behind : (left_out : ℕ → Bool) (k : ℕ) (homes : List (Option ℕ)) (x : ℕ)
-    → home_of (homes_but left_out k homes) x ≡ (if left_out (k + x) then None else home_of homes x)
-homes_behind left_out k [] x = of_choice (λ (o : Option ℕ). None ≡ o) (left_out (k + x)) refl refl
-homes_behind left_out k (None ∷ homes) zero = of_choice (λ (o : Option ℕ). None ≡ o) (left_out (k + 0)) refl refl
-homes_behind left_out k (Some home ∷ homes) zero =
-    let here : k ≡ k + 0 = omega arith in
-    ap (λ n. if left_out n then None else Some home) here
-homes_behind left_out k (None ∷ homes) (suc x) =
-    let next : k + 1 + x ≡ k + suc x = omega arith in
-    homes_behind left_out (k + 1) homes x
-    ∙ ap (λ n. if left_out n then None else home_of homes x) next
-homes_behind left_out k (Some home ∷ homes) (suc x) =
-    let next : k + 1 + x ≡ k + suc x = omega arith in
-    homes_behind left_out (k + 1) homes x
-    ∙ ap (λ n. if left_out n then None else home_of homes x) next
 
 -- the home of a word
 pub home_but : (a : Allocation) (left_out : ℕ → Bool) (x : ℕ)
     → home_of (but a left_out).homes x ≡ (if left_out x then None else home_of a.homes x)
-home_but a left_out x =
-    let here : 0 + x ≡ x = omega arith in
-    homes_behind left_out 0 a.homes x ∙ ap (λ n. if left_out n then None else home_of a.homes x) here
+home_but a left_out x = homes_left left_out a.homes x
 
 pub home_kept : (a : Allocation) (left_out : ℕ → Bool) (x : ℕ) → left_out x ≡ false
     → home_of (but a left_out).homes x ≡ home_of a.homes x
@@ -79,6 +67,21 @@ pub home_was : (a : Allocation) (left_out : ℕ → Bool) (x home : ℕ) → hom
     → home_of a.homes x ≡ Some home
 home_was a left_out x home is =
     when_not (left_out x) (home_of a.homes x) home (sym (home_but a left_out x) ∙ is)
+
+-- so of mirrors
+pub mirror_was : (a : Allocation) (left_out : ℕ → Bool) (x : ℕ) (mirror : Mirror)
+    → mirror_of (but a left_out) x ≡ Some mirror → mirror_of a x ≡ Some mirror
+mirror_was a left_out x mirror is =
+    by_choice (left_out x)
+    (sym (ap (λ (h : Option ℕ). mirror_if h own) (home_but a left_out x)) ∙ is)
+  where
+    own : Option Mirror
+    own = unwrap_or (slice_get a.mirrors x) None
+
+    by_choice : (out : Bool) → mirror_if (if out then None else home_of a.homes x) own ≡ Some mirror
+        → mirror_if (home_of a.homes x) own ≡ Some mirror
+    by_choice true there = absurd (none-some mirror there)
+    by_choice false there = there
 
 -- there are no more homes, in a list as long
 pub homes_fewer : (out : ℕ → Bool) (k : ℕ) (homes : List (Option ℕ))
@@ -124,6 +127,40 @@ module _ (layout : Frame) (left_out : ℕ → Bool)
   control_same c =
       let x = length declared + c in
       rw (home_kept a left_out x (false_from_ne_true (left_out x) (λ is. omega (arith, variables x is)))) refl
+
+  mirror_same : (x : ℕ) → Spares (λ y. x == y) → mirror_of b x ≡ mirror_of a x
+  mirror_same x spares = ap (λ (h : Option ℕ). mirror_if h (unwrap_or (slice_get a.mirrors x) None)) (same_home x spares)
+
+  follows_same : (x : ℕ) → Spares (λ y. x == y) → mirror_code b x ≡ mirror_code a x
+  follows_same x spares = ap₂ mirror_by (same_home x spares) (mirror_same x spares)
+
+  mirrored_same : (kind : Kind) (o : ℕ) (part : TermTree) → Spares (λ y. names_in y part)
+      → mirrored_place b kind o part ≡ mirrored_place a kind o part
+  mirrored_same kind o (flat.variable y) spares = ap (mirrored_at kind o) (mirror_same y spares)
+  mirrored_same kind o part spares = refl
+
+  -- what is computed of an index, which goes by no home, names no more than the index does
+  part_spares : (x : ℕ) (index : TermTree) → Spares (λ y. names_in y index)
+      → Spares (λ y. names_in y (computed_index declared a x index))
+  part_spares x (flat.binary sum operator width left right) spares =
+      of_choice (λ part. Spares (λ y. names_in y part)) (is_some (sum_offset declared a x operator right))
+      (λ y out. (or_parts _ _ (spares y out)).0) spares
+  part_spares x index spares = spares
+
+  part_same : (x : ℕ) (index : TermTree)
+      → (computed_index declared b x index ≡ computed_index declared a x index)
+      × (access_offset declared b x index ≡ access_offset declared a x index)
+  part_same x (flat.binary sum operator width left right) = (refl, refl)
+  part_same x index = (refl, refl)
+
+  near_same : (x : ℕ) (index : TermTree) → Spares (λ y. names_in y index)
+      → near_place declared b x index ≡ near_place declared a x index
+  near_same x index spares =
+      let part = part_same x index in
+      ap (near_or (near_element declared a x index))
+      (ap₂ (mirrored_place b (kind_at declared x)) part.1 part.0
+      ∙ mirrored_same (kind_at declared x) (access_offset declared a x index) (computed_index declared a x index)
+      (part_spares x index spares))
 
   location_same : (x : ℕ) → Spares (λ y. x == y) → variable_location declared b x ≡ variable_location declared a x
   location_same x spares = rw (same_home x spares) refl
@@ -178,7 +215,10 @@ module _ (layout : Frame) (left_out : ℕ → Bool)
         simp (at_home_same, operand_same, by_same None (own place) place e spares, by_same None d place e spares)
     by_same other d place (flat.element source x size index) spares =
         let one = λ (y : ℕ) (out : left_out y ≡ true). (or_parts _ _ (spares y out)).1 in
-        code_same (near_element declared a x index) (near_code d (kind_at declared x)) (near_code d (kind_at declared x))
+        ap (λ (o : Option NearPlace). code_by o (near_code d (kind_at declared x))
+        (reached_code (term_layout fewer) d place x index (into_by (term_layout fewer) None (own place) place index)))
+        (near_same x index one)
+        ∙ code_same (near_place declared a x index) (near_code d (kind_at declared x)) (near_code d (kind_at declared x))
         (λ o. refl) (reached_same d place x index one _ _ (by_same None (own place) place index one))
     by_same other d place (flat.binary source operator width left right) spares =
         let parts = λ (y : ℕ) (out : left_out y ≡ true). or_parts _ _ (spares y out) in
@@ -265,20 +305,6 @@ module _ (layout : Frame) (left_out : ℕ → Bool)
       ap₂ ◌++◌ (into_element_same kind o (stored_value a kind e) (stored_spares kind e one))
       (fill_same kind (o + element_bytes kind) es two)
 
-  -- nor does what is computed of an index, which goes by no home
-  part_spares : (x : ℕ) (index : TermTree) → Spares (λ y. names_in y index)
-      → Spares (λ y. names_in y (computed_index declared a x index))
-  part_spares x (flat.binary sum operator width left right) spares =
-      of_choice (λ part. Spares (λ y. names_in y part)) (is_some (sum_offset declared a x operator right))
-      (λ y out. (or_parts _ _ (spares y out)).0) spares
-  part_spares x index spares = spares
-
-  part_same : (x : ℕ) (index : TermTree)
-      → (computed_index declared b x index ≡ computed_index declared a x index)
-      × (access_offset declared b x index ≡ access_offset declared a x index)
-  part_same x (flat.binary sum operator width left right) = (refl, refl)
-  part_same x index = (refl, refl)
-
   put_same : (within : Option ℕ) (x : ℕ) (index value : TermTree) → Spares (λ y. names_in y index)
       → Spares (λ y. names_in y value)
       → put_element_code fewer within x index value ≡ put_element_code layout within x index value
@@ -286,10 +312,10 @@ module _ (layout : Frame) (left_out : ℕ → Bool)
       let other = stored_value a (kind_at declared x) value in
       let three : Spares (λ y. names_in y other) = stored_spares (kind_at declared x) value two in
       let part = part_same x index in
-      simp (part.0, part.1, read_same, register_same, part_spares x index one)
+      simp (part.0, part.1, near_same x index one, read_same, register_same, part_spares x index one)
   put_same (Some c) x index value one two =
       let part = part_same x index in
-      simp (part.0, part.1, control_same, read_same, register_same, part_spares x index one)
+      simp (part.0, part.1, near_same x index one, control_same, read_same, register_same, part_spares x index one)
 
   taken_same : (x y : Bool) (p q r : ℕ) (within : Option ℕ)
       → taken_code fewer x y p q r within ≡ taken_code layout x y p q r within
@@ -329,15 +355,15 @@ module _ (layout : Frame) (left_out : ℕ → Bool)
 
   -- Loops.
 
-  loop_same : (next : ℕ) (counter : Location) (low high : TermTree) (body : List Instr) (home bound : Option ℕ)
-      → Spares (λ y. names_in y low) → Spares (λ y. names_in y high)
-      → loop_from fewer next counter low high body home bound
-      ≡ loop_from layout next counter low high body home bound
-  loop_same next counter low high body (Some home) (Some bound) one two =
+  loop_same : (next : ℕ) (counter : Location) (mirror : List Instr) (low high : TermTree) (body : List Instr)
+      (home bound : Option ℕ) → Spares (λ y. names_in y low) → Spares (λ y. names_in y high)
+      → loop_from fewer next counter mirror low high body home bound
+      ≡ loop_from layout next counter mirror low high body home bound
+  loop_same next counter mirror low high body (Some home) (Some bound) one two =
       rw (into_same home 0 low one, read_same 5 0 low one, register_same 5 low one) refl
-  loop_same next counter low high body None bound one two =
+  loop_same next counter mirror low high body None bound one two =
       rw (assign_same low next one, assign_same high (next + 4) two) refl
-  loop_same next counter low high body (Some home) None one two =
+  loop_same next counter mirror low high body (Some home) None one two =
       rw (assign_same low next one, assign_same high (next + 4) two) refl
 
   -- Statements.
@@ -348,8 +374,10 @@ module _ (layout : Frame) (left_out : ℕ → Bool)
     statement_same depth (set within x value) spares =
         let one = λ (y : ℕ) (out : left_out y ≡ true). (or_parts _ _ (spares y out)).0 in
         let two = λ (y : ℕ) (out : left_out y ≡ true). (or_parts _ _ (spares y out)).1 in
-        ap (λ l. set_code fewer within l value) (location_same x one)
-        ∙ set_same within (variable_location declared a x) value two
+        ap₂ (λ (front back : List Instr). front ++ back)
+        (ap (λ l. set_code fewer within l value) (location_same x one)
+        ∙ set_same within (variable_location declared a x) value two)
+        (follows_same x one)
     statement_same depth (array x size []) spares = refl
     statement_same depth (array x size (e ∷ es)) spares =
         fill_same (kind_at declared x) (variable_offset declared x)
@@ -370,11 +398,15 @@ module _ (layout : Frame) (left_out : ℕ → Bool)
         let parts = λ (y : ℕ) (out : left_out y ≡ true). neither_of_four _ _ _ _ (spares y out) in
         let next = next_offset layout depth in
         let own = block_code layout (depth + 1) body in
-        ap₂
+        ap (λ mirror. loop_from fewer next (variable_location declared b x) mirror low high
+        (block_code fewer (depth + 1) body)
+        (counting_home (variable_location declared b x) (any_sets x body) (block_code fewer (depth + 1) body))
+        (short_number high)) (follows_same x (λ y out. (parts y out).0))
+        ∙ ap₂
         (λ l (is : List Instr).
-        loop_from fewer next l low high is (counting_home l (any_sets x body) is) (short_number high))
+        loop_from fewer next l (mirror_code a x) low high is (counting_home l (any_sets x body) is) (short_number high))
         (location_same x (λ y out. (parts y out).0)) (block_same (depth + 1) body (λ y out. (parts y out).3))
-        ∙ loop_same next (variable_location declared a x) low high own
+        ∙ loop_same next (variable_location declared a x) (mirror_code a x) low high own
         (counting_home (variable_location declared a x) (any_sets x body) own) (short_number high)
         (λ y out. (parts y out).1) (λ y out. (parts y out).2)
 

@@ -7,7 +7,14 @@ use Rattle.std.proofs.lemmas.Bool.{and_left, cases_Bool, not-true, or_from, true
 use Rattle.codegen.proofs.Choices.{of_choice}
 use Rattle.codegen.proofs.EntryRuns.{entry_runs}
 use Rattle.codegen.proofs.FewerHomes.{but, home_but, home_kept, home_was, homes_fewer, into_same, result_same}
-use Rattle.codegen.proofs.FewerHomes.{statement_same}
+use Rattle.codegen.proofs.FewerHomes.{mirror_was, statement_same}
+use Rattle.codegen.proofs.Machine.{mirror_by, mirror_of, sum_of}
+use Rattle.codegen.proofs.Mirroring.{mirror_runs}
+use Rattle.codegen.proofs.Language.{element_bytes}
+use Rattle.codegen.proofs.Logic.{kept_by, kept_then, quiet}
+use Rattle.codegen.specs.private.Generated.{mirror_count, mirrors_code}
+use Rattle.codegen.specs.expression_code.Allocation.{mirror_if}
+use Rattle.std.proofs.Common.{ap₂, unwrap_or}
 use Rattle.codegen.proofs.Language.{after, after_all, AreTyped, block_work, first, FlatVariable, IsResult, IsSet}
 use Rattle.codegen.proofs.Language.{IsTyped, nothing, numbers_in, path_along, path_at, set, statement_work}
 use Rattle.codegen.proofs.Language.{StraightBlock, StraightState, StraightTree, TermTree, types_of, value_in}
@@ -70,6 +77,13 @@ allocated_but z out =
           typed_each z out x d (home_of (but a out).homes x ≡ None) known
           (λ on laid. home_but a out x ∙ ap (λ b. if b then None else home_of a.homes x) on)
           (λ off declared. home_kept a out x off ∙ z.allocated.words x d size declared is);
+      mirrored = λ x mirror is.
+          let m = z.allocated.mirrored x mirror (mirror_was a out x mirror is) in
+          (omega (arith, m.0, but_length out 0 z.laid z.declared), m.1, m.2);
+      mirror_apart = λ x y home mirror is at.
+          z.allocated.mirror_apart x y home mirror (mirror_was a out x mirror is) (home_was a out y home at);
+      mirrors_apart = λ x y one other is there. z.allocated.mirrors_apart x y one other (mirror_was a out x one is)
+          (mirror_was a out y other there);
     }
 
 pub laid_but : (z : Setting) (out : ℕ → Bool) → AreLaid z.laid (typed_as z out) (but z.allocation out)
@@ -142,6 +156,12 @@ module _ (z : Setting) where
 
   -- Ready with other homes.
 
+  -- the same homes, and so the same mirrors
+  mirror_alike : (one other : ℕ → Bool) → ((y : ℕ) → home_of (but a one).homes y ≡ home_of (but a other).homes y)
+      → (y : ℕ) → mirror_of (but a one) y ≡ mirror_of (but a other) y
+  mirror_alike one other same y =
+      ap (λ (h : Option ℕ). mirror_if h (unwrap_or (slice_get a.mirrors y) None)) (same y)
+
   -- the same homes, otherwise left out
   ready_alike : (one other : ℕ → Bool) → ((y : ℕ) → home_of (but a one).homes y ≡ home_of (but a other).homes y)
       → ((y : ℕ) → slice_get (typed_as z one) y ≡ slice_get (typed_as z other) y)
@@ -154,6 +174,8 @@ module _ (z : Setting) where
     controls_there = λ c below read. control_alike (fewer z other) (typed_as z one) (but a one) (laid_but z one) c
         (mask_of (env.controls c)) s s (same (length z.laid + c)) (λ home at. refl) refl
         (ready.controls_there c below read);
+    mirrors_there = λ y home mirror is at. ready.mirrors_there y home mirror (mirror_alike one other same y ∙ is)
+        (same y ∙ at);
   }
 
   -- another variable than the one that comes to its home is left out as before
@@ -245,24 +267,39 @@ module _ (z : Setting) where
         let suits = value_typed out z.code.profile z.declared (typed_as z out) (typed_same out) typed.word value
         typed.suits unread in
         let same = into_same (layout_of z) out variables home 0 value unread in
+        let left = without out x in
+        let off : left x ≡ false = ap (λ b. not b && out x) (eq-eqb x x refl) in
+        let here : home_of (but a left).homes x ≡ Some home = home_kept a left x off ∙ at in
+        let own : mirror_of (but a left) x ≡ mirror_of a x =
+        ap (λ (h : Option ℕ). mirror_if h (unwrap_or (slice_get a.mirrors x) None)) (home_kept a left x off) in
         as_code
-        (ap (λ h. set_code (layout_of z) None (at_home h (InSlot (variable_offset z.laid x))) value) at
-        ∙ sym same)
+        (ap₂ (λ (front back : List Instr). front ++ back)
+        (ap (λ h. set_code (layout_of z) None (at_home h (InSlot (variable_offset z.laid x))) value) at ∙ sym same)
+        (ap₂ mirror_by (sym (home_kept a left x off)) (sym own)))
         (cheaper (omega (arith, set_cost value))
         (gives
         (λ env s t fine ready done.
+        let m = done.middle in
+        let one = done.first in
         let v = value_in env.variables value in
         let fits = suits_fits z.code.profile (typed_as z out) typed.word value env.variables ready.fits suits in
-        let off : without out x x ≡ false = ap (λ b. not b && out x) (eq-eqb x x refl) in
-        ready_at_home (fewer z (without out x)) (typed_as z out) (but a out) (laid_but z out) refl x home v
-        typed.word typed.mutable (typed_same (without out x) x off ∙ typed.known)
-        (home_kept a (without out x) x off ∙ at)
+        let there : t.regs home ≡ v =
+        done.second.others home (λ e. omega (arith, is.1, e))
+        (λ mirror mirrored. (fewer z left).allocated.mirror_apart x x home mirror mirrored here) ∙ one.there in
+        ready_at_home (fewer z left) (typed_as z out) (but a out) (laid_but z out) refl refl x home v
+        typed.word typed.mutable (typed_same left x off ∙ typed.known) here
         (λ y apart. as_before out x y (ne_eqb y x apart)) (λ y apart. typed_before out x y (ne_eqb y x apart)) fits
         env s t ready
-        (record { base = done.held.base; data_there = done.held.data_there })
-        (kept_less z base (base + 4 * (0 - a.count)) s t (omega arith) done.kept) done.there
-        (λ r other apart. done.lower r (home_beside a.count 0 home r other.0 other.1 apart)))
-        (in_all out (homed_runs (fewer z out) home is suits.has_type room))))
+        (record { base = done.second.held.base; data_there = done.second.held.data_there })
+        (kept_then z base s m t (kept_less z base (base + 4 * (0 - a.count)) s m (omega arith) one.kept)
+        (kept_by z base m t done.second.same)) there
+        (λ mirror mirrored. done.second.there home mirror mirrored here
+        ∙ ap (λ w. sum_of (element_bytes mirror.kind * w) z.frame) one.there)
+        (λ r other apart beside. done.second.others r (λ e. omega (arith, other.1, e)) beside
+        ∙ one.lower r (home_beside a.count 0 home r other.0 other.1 apart)))
+        (quiet (in_all out (homed_runs (fewer z out) home is suits.has_type room))
+        (in_all left (mirror_runs (fewer z left) x))
+        (λ env s t ready done. record { base = done.held.base; data_there = done.held.data_there }))))
 
   -- Statements, and the result behind them.
 
@@ -391,9 +428,11 @@ module _ (z : Setting) where
         → AreTyped z.code.profile z.declared z.controls b → AllReadKept a.unread b
         → base + 4 * slots_to a.count (height_in_all b) ≤ z.size → depth_in_all b ≤ z.depths
         → length (block_of b) < far
-        → Runs z (3 * home_count a.homes + (32 * block_work z.counts b + 32 * value_nodes value))
+        → Runs z (3 * home_count a.homes + 2 * mirror_count a.mirrors
+        + (32 * block_work z.counts b + 32 * value_nodes value))
         (λ env. path_along env b ++ steps_of_result value (after_all env b))
-        (entry_code z.laid 0 (homes_but out 0 a.homes) ++ (block_of b ++ result_code (layout_of z) value))
+        ((entry_code z.laid 0 (homes_but out 0 a.homes) ++ mirrors_code (homes_but out 0 a.homes) 0 a.mirrors)
+        ++ (block_of b ++ result_code (layout_of z) value))
         (Laid z) (λ env s t. ProgramEnded value (after_all env b) t)
     program_runs b out variables fresh few_homes typed read room within few =
         let count = homes_fewer out 0 a.homes in

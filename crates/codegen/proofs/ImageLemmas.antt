@@ -18,6 +18,9 @@ use Rattle.codegen.proofs.Machine.{first_code, laid_out}
 use Rattle.codegen.specs.private.Homes.{is_no_array}
 use Rattle.std.proofs.Common.{slice_get}
 use Rattle.codegen.specs.private.Fresh.{homes_but, starts_fresh}
+use Rattle.codegen.specs.private.Generated.{mirror_count, mirrors_code}
+use Rattle.codegen.proofs.Machine.{home_of, Mirror, mirror_by}
+use Rattle.codegen.proofs.Mirroring.{mirror_length}
 use Rattle.codegen.proofs.ReadControls.{plain_reads}
 use Rattle.codegen.proofs.Language.{StraightProgram, most_elements, Form}
 use Rattle.codegen.proofs.Language.{SingleWord, Kind, Boolean, Param, WordType, held_words, array_words, Profile}
@@ -160,6 +163,28 @@ entry_length laid x (Some home ∷ homes) =
       entry_length laid (x + 1) homes,
     )
 
+none_length : (h : Option ℕ) → length (mirror_by h None) ≡ 0
+none_length None = refl
+none_length (Some home) = refl
+
+mirrors_length : (homes : List (Option ℕ)) (x : ℕ) (mirrors : List (Option Mirror))
+    → length (mirrors_code homes x mirrors) ≤ 2 * mirror_count mirrors
+mirrors_length homes x [] = omega arith
+mirrors_length homes x (None ∷ mirrors) =
+    omega (
+      arith,
+      length-append (mirror_by (home_of homes x) None) (mirrors_code homes (x + 1) mirrors),
+      none_length (home_of homes x),
+      mirrors_length homes (x + 1) mirrors,
+    )
+mirrors_length homes x (Some mirror ∷ mirrors) =
+    omega (
+      arith,
+      length-append (mirror_by (home_of homes x) (Some mirror)) (mirrors_code homes (x + 1) mirrors),
+      mirror_length (home_of homes x) (Some mirror),
+      mirrors_length homes (x + 1) mirrors,
+    )
+
 -- of a program of no more nodes than its source
 pub program_length : (a : Allocation) (p : StraightProgram) → IsCounted p → IsFitting p a
     → length (program_code a p) ≤ most_words p.nodes
@@ -170,6 +195,7 @@ program_length a p counted fitting =
       length-append {A = Instr},
       entry_length (laid_out a p) 0 (homes_but (starts_fresh p) 0 a.homes),
       (homes_fewer (starts_fresh p) 0 a.homes).0,
+      mirrors_length (homes_but (starts_fresh p) 0 a.homes) 0 a.mirrors,
       body,
       result_length (frame_of a p) p.value,
       counted,
@@ -259,6 +285,9 @@ plain_fits p = record {
     allowed = λ x home is. absurd (none-some home is);
     apart = λ x y home is. absurd (none-some home is);
     words = λ x d size known is. refl;
+    mirrored = λ x mirror is. absurd (none-some mirror is);
+    mirror_apart = λ x y home mirror is. absurd (none-some mirror is);
+    mirrors_apart = λ x y one other is. absurd (none-some one is);
   };
   within = omega arith;
   few = omega arith;

@@ -5,6 +5,7 @@ pub mod Language
 pub mod Logic
 pub mod HiddenWords
 pub mod HomeWords
+pub mod Mirroring
 pub mod Slots
 pub mod Masks
 pub mod Numbers
@@ -36,6 +37,7 @@ pub mod ImageLemmas
 pub mod Standing
 pub mod Slotted
 pub mod EntryRuns
+pub mod HomesBut
 pub mod FewerHomes
 pub mod TypedBut
 pub mod FreshRuns

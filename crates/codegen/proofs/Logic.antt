@@ -18,10 +18,11 @@ pub use Rattle.codegen.proofs.expression_code_lemmas.Frame.{Held, held_regs, Hel
 pub use Rattle.codegen.proofs.expression_code_lemmas.Frame.{Setting, setting, Steps, terms_at}
 pub use Rattle.codegen.proofs.expression_code_lemmas.Homes.{home_there}
 pub use Rattle.codegen.proofs.expression_code_lemmas.Indices.{computed_part, IsPart}
+pub use Rattle.codegen.proofs.expression_code_lemmas.Mirrors.{IsReached, place_reached}
 pub use Rattle.codegen.proofs.expression_code_lemmas.Moves.{computing_within, does, is_free, loading, move_runs}
 pub use Rattle.codegen.proofs.expression_code_lemmas.Moves.{moves_run, none_low, put, register-at, storing, take}
 pub use Rattle.codegen.proofs.expression_code_lemmas.Moves.{unwritten, written}
-pub use Rattle.codegen.proofs.expression_code_lemmas.NumberCode.{known, near_known, NearElement}
+pub use Rattle.codegen.proofs.expression_code_lemmas.NumberCode.{known}
 pub use Rattle.codegen.proofs.expression_code_lemmas.OperandRuns.{steps_of}
 pub use Rattle.codegen.proofs.expression_code_lemmas.Operands.{fetch_runs, Fetched, HasRoom, took}
 pub use Rattle.codegen.proofs.expression_code_lemmas.OperatorCode.{constant_after, constant_plain}
@@ -37,7 +38,7 @@ pub use Rattle.codegen.proofs.expression_code_lemmas.TermLengths.{typed_within}
 pub use Rattle.codegen.proofs.expression_code_lemmas.Values.{array_lies, at_control, control_stays, controls_kept}
 pub use Rattle.codegen.proofs.expression_code_lemmas.Values.{Holds, homes_by, homes_then, HomesKept, Kept, kept_by}
 pub use Rattle.codegen.proofs.expression_code_lemmas.Values.{kept_less, kept_number, kept_then, Leaves, number_same}
-pub use Rattle.codegen.proofs.expression_code_lemmas.Values.{place_before, place_ends, Ready, ready_after, ready_below}
+pub use Rattle.codegen.proofs.expression_code_lemmas.Values.{mirror_register, mirrors_kept, place_before, place_ends, Ready, ready_after, ready_below}
 pub use Rattle.codegen.proofs.expression_code_lemmas.Values.{value_word, ValuedIn, variables_home, variables_kept, Wrote}
 pub use Rattle.codegen.proofs.expression_code_lemmas.Values.{wrote_kept, wrote_there}
 pub use Rattle.codegen.proofs.expression_code_lemmas.WorkRegisters.{free_from, home_allowed, home_beside, home_target}

@@ -5,7 +5,8 @@ use Rattle.codegen.proofs.Choices.{of_choice}
 use Rattle.codegen.proofs.Language.{TermTree, term_nodes}
 use Rattle.codegen.proofs.Logic.{load_length, move_length, store_length}
 use Rattle.codegen.proofs.Machine.{AreNear, far, Instr, Location, bounds_code, count_code, read_register, Frame}
-use Rattle.codegen.proofs.Machine.{test_code, next_offset, variable_location}
+use Rattle.codegen.proofs.Machine.{home_of, mirror_code, mirror_of, test_code, next_offset, variable_location}
+use Rattle.codegen.proofs.Mirroring.{mirror_length}
 use Rattle.codegen.proofs.WordLengths.{assign_length, put_word_length, read_length, value_length}
 use Rattle.codegen.specs.private.Loops.{counting_home, is_below, loop_from, repeat_code, short_number, to_word_code}
 
@@ -24,34 +25,36 @@ module _ (layout : Frame) (next : ℕ) (body : List Instr) where
         assign_length layout high (next + 4),
       )
 
-  from_spans : (counter : Location) (low high : TermTree) (home bound : Option ℕ)
-      → Spans body (16 * term_nodes low + 16 * term_nodes high + 26)
-      (loop_from layout next counter low high body home bound)
-  from_spans counter low high (Some h) (Some bound) =
+  from_spans : (counter : Location) (mirror : List Instr) → length mirror ≤ 2 → (low high : TermTree)
+      (home bound : Option ℕ) → Spans body (16 * term_nodes low + 16 * term_nodes high + 32)
+      (loop_from layout next counter mirror low high body home bound)
+  from_spans counter mirror few low high (Some h) (Some bound) =
       let e = length-append {A = Instr} in
       let m = move_length h (read_register layout.allocation 5 low) in
-      of_choice (Spans body (16 * term_nodes low + 16 * term_nodes high + 26)) (is_below bound low)
-      (omega (arith, e), omega (arith, e, value_length layout h 0 low))
-      (omega (arith, e), omega (arith, e, m, read_length layout 5 0 low))
-  from_spans counter low high (Some h) None =
+      of_choice (Spans body (16 * term_nodes low + 16 * term_nodes high + 32)) (is_below bound low)
+      (omega (arith, e), omega (arith, e, few, value_length layout h 0 low))
+      (omega (arith, e), omega (arith, e, few, m, read_length layout 5 0 low))
+  from_spans counter mirror few low high (Some h) None =
       let e = length-append {A = Instr} in
       let m = move_length h 6 in
-      (omega (arith, e), omega (arith, e, bounds_length low high, load_length, m))
-  from_spans counter low high None bound =
+      (omega (arith, e), omega (arith, e, few, bounds_length low high, load_length, m))
+  from_spans counter mirror few low high None bound =
       let e = length-append {A = Instr} in
       let p = put_word_length 6 counter in
-      (omega (arith, e), omega (arith, e, bounds_length low high, load_length, store_length, p))
+      (omega (arith, e), omega (arith, e, few, bounds_length low high, load_length, store_length, p))
 
 pub repeat_spans : (layout : Frame) (depth x : ℕ) (body : List Instr) (low high : TermTree) (is_set : Bool)
-    → Spans body (16 * term_nodes low + 16 * term_nodes high + 26)
+    → Spans body (16 * term_nodes low + 16 * term_nodes high + 32)
     (repeat_code layout depth x low high is_set body)
 repeat_spans layout depth x body low high is_set =
     let counter = variable_location layout.declared layout.allocation x in
-    from_spans layout (next_offset layout depth) body counter low high (counting_home counter is_set body)
+    from_spans layout (next_offset layout depth) body counter (mirror_code layout.allocation x)
+    (mirror_length (home_of layout.allocation.homes x) (mirror_of layout.allocation x)) low high
+    (counting_home counter is_set body)
     (short_number high)
 
 -- so the iterations of a loop that does not count are no farther than a jump goes, where the loop is not too long
-pub iteration_near : (next : ℕ) (bounds : List Instr) (counter : Location) (body : List Instr)
-    → length (bounds ++ to_word_code next counter body None) < far
-    → AreNear (length (test_code next)) (length (count_code next counter ++ body))
-iteration_near next bounds counter body few = omega (arith, length-append {A = Instr}, few)
+pub iteration_near : (next : ℕ) (bounds : List Instr) (counter : Location) (mirror body : List Instr)
+    → length (bounds ++ to_word_code next counter mirror body None) < far
+    → AreNear (length (test_code next)) (length (count_code next counter mirror ++ body))
+iteration_near next bounds counter mirror body few = omega (arith, length-append {A = Instr}, few)

@@ -1,14 +1,14 @@
 -- The code of a loop.
 use Rattle.std.proofs.Common.{◌≡◌, ℕ, suc, ◌+◌, ◌-◌, ◌*◌, ◌%◌, ◌^◌, ◌<◌, ◌≤◌, false, nat_lt, List, [], ◌∷◌, ◌++◌}
-use Rattle.std.proofs.Common.{length, Option, None, Some, slice_get, slice_index, refl, sym, ap, ap₂, ◌∙◌, subst, arith}
+use Rattle.std.proofs.Common.{length, Option, None, Some, slice_get, slice_index, refl, sym, ap, ap₂, ◌∙◌, subst, arith, append-nil}
 use Rattle.std.proofs.Common.{inr}
 use Rattle.std.proofs.lemmas.Bool.Decides.{nat_tests}
 use Rattle.std.proofs.lemmas.Nat.{mul-le}
-use Rattle.codegen.proofs.CountingRuns.{home_low, moved_in, numbered}
+use Rattle.codegen.proofs.CountingRuns.{count_same, home_low, moved_in, numbered}
 use Rattle.codegen.proofs.Language.{TermTree, word_as, value_in, path_in, iterations, path_of_iterations, Path, bounded}
 use Rattle.codegen.proofs.Language.{term_nodes, types_of, TermHasType, counter_type, StraightBlock, repeats}
 use Rattle.codegen.proofs.Language.{StraightState, counted, after, after_all, path_at, path_along, word_of}
-use Rattle.codegen.proofs.Machine.{bounds_code, test_code, count_code, loop_code, variable_offset, at_home, home_of}
+use Rattle.codegen.proofs.Machine.{mirror_by, mirror_code, mirror_of, bounds_code, test_code, count_code, loop_code, variable_offset, at_home, home_of}
 use Rattle.codegen.proofs.Machine.{InSlot, next_offset, slots_to, assign_code, variable_location, height_of, Instr}
 use Rattle.codegen.proofs.Machine.{Addi, Sltu, Sw, ByteMap, number_at, with_number, sum_of}
 use Rattle.rv_code.specs.declared.instructions.Instr.TheVariants as instr
@@ -16,13 +16,14 @@ use Rattle.rv_machine.specs.Machine as machine
 use Rattle.codegen.proofs.Logic.{value_word, HeldAt, held_regs, take, put, does, move_runs, moves_run, number_or_zero}
 use Rattle.codegen.proofs.Logic.{layout_of}
 use Rattle.codegen.proofs.Logic.{Setting, setting, base_of, MarkKnown, by_bounds, none, Runs, Still, looping, along_fit}
-use Rattle.codegen.proofs.Logic.{seq, quiet, quietly, weaken, gives, cheaper, beside, Kept, Ready, Wrote, wrote_kept}
+use Rattle.codegen.proofs.Logic.{as_code, mirror_register, seq, quiet, quietly, weaken, gives, cheaper, beside, Kept, Ready, Wrote, wrote_kept}
 use Rattle.codegen.proofs.Logic.{wrote_there, kept_number, kept_less, kept_then, ready_below, HomesKept, homes_by}
 use Rattle.codegen.proofs.Logic.{homes_computed, homes_moved, homes_then, computing_within, is_scratch, scratch_low}
 use Rattle.codegen.proofs.Slots.{StateShown, ready_with, ready_behind, word_before, stored, assigned, Hidden}
 use Rattle.codegen.proofs.Slots.{hidden_then, hidden_less, hidden_by, hidden_wrote, hidden_beyond, hidden_number}
 use Rattle.codegen.proofs.Slots.{other_number, ready_set}
 use Rattle.codegen.specs.private.Words.{put_word_code}
+use Rattle.codegen.specs.expression_code.TermCode.{move_code}
 
 -- So many iterations are left, the next of them for this number: both of the loop's words tell it.
 pub record LoopCounts (z : Setting) (next left i : ℕ) (s : machine.State) : Type 0 where
@@ -121,12 +122,15 @@ module _ (z : Setting) (depth : ℕ) (within : depth < z.depths) where
   -- in its slot, or in its home
   taken_by : (x left i : ℕ) → slice_get z.declared x ≡ Some (word_as counter_type false) → (h : Option ℕ)
       → home_of z.allocation.homes x ≡ h
-      → Runs z 3 none (put_word_code 6 (at_home h (InSlot (variable_offset z.laid x)))) (Iterations left i)
+      → Runs z 5 none (put_word_code 6 (at_home h (InSlot (variable_offset z.laid x)))
+      ++ mirror_by h (mirror_of z.allocation x)) (Iterations left i)
       (Taken x i)
   taken_by x left i known None away =
       let o = variable_offset z.laid x in
       let before = word_before z x counter_type false known away in
-      weaken {P' = Iterations left i}
+      as_code (append-nil (put_word_code 6 (InSlot o)))
+      (cheaper (omega arith)
+      (weaken {P' = Iterations left i}
       (λ env s fine given. given.0.ready.held)
       (λ env s t fine given moved.
       let counts = given.0.counts in
@@ -142,7 +146,7 @@ module _ (z : Setting) (depth : ℕ) (within : depth < z.depths) where
         hidden = hidden_wrote z depth 4 o i s t (omega (arith, before)) wrote;
         bound = other_number z 4 o i 4 (next + 4) s t wrote (inr (omega (arith, before)));
       })
-      (move_runs z (put Sw 6 o) refl (omega arith, omega (arith, before, z.room)))
+      (move_runs z (put Sw 6 o) refl (omega arith, omega (arith, before, z.room)))))
   taken_by x left i known (Some home) at =
       let low = home_low z depth x home known at in
       cheaper (omega arith)
@@ -155,18 +159,22 @@ module _ (z : Setting) (depth : ℕ) (within : depth < z.depths) where
       record {
         ready = numbered z depth x home known at (omega (arith, counts.bound_small, counts.left_is)) env s t
             given.0.ready done given.1;
-        six = done.others 6 (λ e. omega (arith, low, e)) ∙ given.1;
-        hidden = hidden_by z depth s t done.same;
-        bound = ap (λ (b : ByteMap). number_at b 4 (z.frame + (next + 4))) done.same;
+        six = done.second.others 6 (λ e. omega (arith, e))
+            (λ mirror is e. omega (arith, z.allocated.some, (mirror_register z x mirror is).0, e))
+            ∙ (done.first.others 6 (λ e. omega (arith, low, e)) ∙ given.1);
+        hidden = hidden_by z depth s t (count_same z depth x home known at done);
+        bound = ap (λ (b : ByteMap). number_at b 4 (z.frame + (next + 4))) (count_same z depth x home known at done);
       })
-      (moved_in z depth x home known at 6 (omega arith) (omega arith)))
+      (as_code (ap (λ (h : Option ℕ). move_code home 6 ++ mirror_by h (mirror_of z.allocation x)) (sym at))
+      (moved_in z depth x home known at 6 (omega arith) (omega arith))))
 
   abbrev more_code : List Instr
   more_code = instr.Immediate Addi 6 6 1 ∷ []
 
   -- and then the next number is stored
   count_runs : (x left i : ℕ) → slice_get z.declared x ≡ Some (word_as counter_type false)
-      → Runs z 7 none (count_code next (variable_location z.laid z.allocation x)) (Iterations left i)
+      → Runs z 9 none (count_code next (variable_location z.laid z.allocation x) (mirror_code z.allocation x))
+      (Iterations left i)
       (Counted x left i)
   count_runs x left i known =
       gives
@@ -277,7 +285,7 @@ module _ (z : Setting) (depth : ℕ) (within : depth < z.depths) where
       (room_low : base_of z + 4 * slots_to z.allocation.count (height_of low) ≤ z.size)
       (room_high : base_of z + 4 * slots_to z.allocation.count (height_of high) ≤ z.size)
       (near : 2 * (length (test_code next) + length (count_code next (variable_location z.laid z.allocation x)
-      ++ ys)) + 8 < 2 ^ 19)
+      (mirror_code z.allocation x) ++ ys)) + 8 < 2 ^ 19)
       (inner : Runs z n (λ env. path_along env body) ys (Ready z)
       (StateShown z (depth + 1) (λ env. after_all env body))) where
     abbrev one_iteration : ℕ → StraightState → StraightState
@@ -288,8 +296,8 @@ module _ (z : Setting) (depth : ℕ) (within : depth < z.depths) where
 
     -- an iteration
     body_runs : (left i : ℕ)
-        → Runs z (7 + n) (λ env. path_along (counted x i env) body)
-        (count_code next (variable_location z.laid z.allocation x) ++ ys) (Iterations left i) (Done left i)
+        → Runs z (9 + n) (λ env. path_along (counted x i env) body)
+        (count_code next (variable_location z.laid z.allocation x) (mirror_code z.allocation x) ++ ys) (Iterations left i) (Done left i)
     body_runs left i =
         gives
         (λ env u v fine given done.
@@ -336,8 +344,8 @@ module _ (z : Setting) (depth : ℕ) (within : depth < z.depths) where
 
     -- with bounds that are known beforehand
     loop_at : (b : ℕ × ℕ)
-        → Runs z ((b.1 - b.0 + 1) * (7 + (7 + n) + 2)) (λ env. path_by env (bounds env))
-        (loop_code (test_code next) (count_code next (variable_location z.laid z.allocation x) ++ ys))
+        → Runs z ((b.1 - b.0 + 1) * (7 + (9 + n) + 2)) (λ env. path_by env (bounds env))
+        (loop_code (test_code next) (count_code next (variable_location z.laid z.allocation x) (mirror_code z.allocation x) ++ ys))
         (MarkKnown (setting z) (ℕ × ℕ) (λ c. c.1 - c.0 ≤ slice_index z.counts x) Beginning bounds b)
         (λ env s t. Over (iterations ((bounds env).1 - (bounds env).0) (bounds env).0 one_iteration env) s t)
     loop_at b =
@@ -365,20 +373,20 @@ module _ (z : Setting) (depth : ℕ) (within : depth < z.depths) where
         ))
         test_runs body_runs (b.1 - b.0) b.0))
 
-    loop_runs : Runs z ((slice_index z.counts x + 1) * (7 + (7 + n) + 2))
+    loop_runs : Runs z ((slice_index z.counts x + 1) * (7 + (9 + n) + 2))
         (λ env. bounded x (bounds env).0 (bounds env).1 ∷ path_by env (bounds env))
-        (loop_code (test_code next) (count_code next (variable_location z.laid z.allocation x) ++ ys))
+        (loop_code (test_code next) (count_code next (variable_location z.laid z.allocation x) (mirror_code z.allocation x) ++ ys))
         Beginning (λ env s t. Over (iterations ((bounds env).1 - (bounds env).0) (bounds env).0 one_iteration env) s t)
     loop_runs =
         by_bounds z x bounds
-        (λ b few. cheaper (mul-le (b.1 - b.0 + 1) (7 + (7 + n) + 2) (slice_index z.counts x + 1) (7 + (7 + n) + 2)
+        (λ b few. cheaper (mul-le (b.1 - b.0 + 1) (7 + (9 + n) + 2) (slice_index z.counts x + 1) (7 + (9 + n) + 2)
         (omega (arith, few)) (omega arith)) (loop_at b))
 
     -- both bounds, and then the iterations
     pub repeats_runs : Runs z (16 * term_nodes low + 3 + (16 * term_nodes high + 3)
-        + (slice_index z.counts x + 1) * (7 + (7 + n) + 2)) (λ env. path_at env (repeats x low high body))
+        + (slice_index z.counts x + 1) * (7 + (9 + n) + 2)) (λ env. path_at env (repeats x low high body))
         (bounds_code (layout_of z) next low high
-        ++ loop_code (test_code next) (count_code next (variable_location z.laid z.allocation x) ++ ys))
+        ++ loop_code (test_code next) (count_code next (variable_location z.laid z.allocation x) (mirror_code z.allocation x) ++ ys))
         (Ready z) (StateShown z depth (λ env. after env (repeats x low high body)))
     repeats_runs =
         gives

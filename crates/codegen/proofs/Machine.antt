@@ -25,11 +25,13 @@ pub use Rattle.codegen.specs.expression_code.Layout.{Frame, control_offset, next
 pub use Rattle.codegen.specs.expression_code.Layout.{control_location, temporaries_offset, variable_location}
 pub use Rattle.codegen.specs.expression_code.Layout.{variable_offset, word_offset}
 pub use Rattle.codegen.specs.expression_code.Allocation.{Allocation, at_home, home_of, plain, register_of, slots_to}
-pub use Rattle.codegen.specs.expression_code.Allocation.{is_unread}
+pub use Rattle.codegen.specs.expression_code.Allocation.{is_unread, mirror_of}
+pub use Rattle.codegen.specs.declared.expression_code.allocation.Mirror.{Mirror}
+pub use Rattle.codegen.specs.declared.expression_code.emit.NearPlace.{NearPlace}
 pub use Rattle.codegen.specs.private.Reads.{AllReadKept, IsKeptWithin, ReadsKept}
 pub use Rattle.codegen.specs.expression_code.TermCode.{IsAmong, address_code, code_by, constant_code, fetch_code}
-pub use Rattle.codegen.specs.expression_code.TermCode.{into_code, kind_at, load_by, load_code, lower_part, near_element}
-pub use Rattle.codegen.specs.expression_code.TermCode.{access_offset, computed_index, store_code}
+pub use Rattle.codegen.specs.expression_code.TermCode.{into_code, kind_at, load_by, load_code, lower_part, near_place}
+pub use Rattle.codegen.specs.expression_code.TermCode.{access_offset, computed_index, mirror_by, mirror_code, store_code}
 pub use Rattle.codegen.specs.declared.expression_code.locations.Location.{Location}
 pub use Rattle.codegen.specs.declared.expression_code.locations.Location.TheVariants.{InRegister, InSlot}
 pub use Rattle.codegen.specs.image_fields.Fields.{AreSlots, Fields, IsImage, IsResultSlot, is_length, result_end}

@@ -5,7 +5,10 @@ use Rattle.std.proofs.Common.{None, Some, refl, sym, ap, ◌∙◌, arith, inl, 
 use Rattle.std.proofs.lemmas.Bool.{cases_eq, eq-eqb, true≢false}
 use Rattle.codegen.proofs.Machine.{control_offset, number_at, at_home, control_location, fetch_code, InSlot, is_unread}
 use Rattle.codegen.proofs.Machine.{kept_code, read_register, register_of, unless_unread, home_of, home_of_term, Instr}
-use Rattle.codegen.proofs.Machine.{Sw}
+use Rattle.codegen.proofs.Machine.{Mirror, mirror_of, sum_of, Sw}
+use Rattle.codegen.proofs.Language.{element_bytes}
+use Rattle.codegen.proofs.Logic.{mirror_register}
+use Rattle.std.proofs.Common.{◌*◌}
 use Rattle.codegen.proofs.Language.{StraightState, with_controls, TermTree, WordType, types_of, TermHasType}
 use Rattle.codegen.proofs.Logic.{free_from, none-some, at_control, control_stays, Fetched, fetch_runs, HasRoom, Holds}
 use Rattle.codegen.proofs.Logic.{layout_of}
@@ -42,6 +45,14 @@ module _ (z : Setting) where
       at_control z c (λ l. home ≢ register_of l spare)
       (λ own at e. other (z.allocated.apart y (length z.laid + c) own (here ∙ ap Some e) at))
       (λ away e. omega (arith, z.allocated.some, (z.allocated.allowed y home here).0, e, low))
+
+  -- and it is no mirror
+  mask_no_mirror : (c spare x : ℕ) (mirror : Mirror) → spare < 8 → mirror_of z.allocation x ≡ Some mirror
+      → mirror.register ≢ mask_register c spare
+  mask_no_mirror c spare x mirror low is =
+      at_control z c (λ l. mirror.register ≢ register_of l spare)
+      (λ own at e. z.allocated.mirror_apart x (length z.laid + c) own mirror is at (sym e))
+      (λ away e. omega (arith, z.allocated.some, (mirror_register z x mirror is).0, e, low))
 
   -- code may work on it
   pub mask_free : (c spare : ℕ) → 4 < spare → spare < 32 → IsFree (mask_register c spare)
@@ -157,6 +168,15 @@ module _ (z : Setting) where
           (kept_less z (control_offset z.laid c) (base_of z) s m (omega arith) kept) one.lower)
           (kept_less z (control_offset z.laid c) (control_offset z.laid (c + 1)) t u (omega arith) two.lower));
       controls_there = control_there;
+      mirrors_there = λ x home mirror is at.
+          let low = mirror_register z x mirror is in
+          let below = (z.allocated.mirrored x mirror is).0 in
+          stays mirror.register low
+          ∙ homes mirror.register low (mask_no_mirror c 7 x mirror (omega arith) is)
+          (mask_no_mirror (c + 1) 5 x mirror (omega arith) is)
+          ∙ (ready.mirrors_there x home mirror is at
+          ∙ ap (λ w. sum_of (element_bytes mirror.kind * w) z.frame)
+          (sym (others x home (omega (arith, below, z.as_many)) (omega (arith, below, z.as_many)) at)));
     }
 
   -- a control value's mask is put where it belongs, unless nothing reads it

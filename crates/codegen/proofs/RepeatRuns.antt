@@ -9,7 +9,7 @@ use Rattle.codegen.proofs.Logic.{none-some, Setting, base_of, Runs, cheaper, Rea
 use Rattle.codegen.proofs.LoopLengths.{iteration_near}
 use Rattle.codegen.proofs.LoopRuns.{repeats_runs}
 use Rattle.codegen.proofs.Machine.{at_home, bounds_code, far, height_of, home_of, InSlot, Instr, next_offset, slots_to}
-use Rattle.codegen.proofs.Machine.{variable_location, variable_offset}
+use Rattle.codegen.proofs.Machine.{mirror_code, variable_location, variable_offset}
 use Rattle.codegen.proofs.Slots.{StateShown}
 use Rattle.codegen.proofs.expression_code_lemmas.WorkRegisters.{when_some}
 use Rattle.codegen.specs.private.Loops.{any_sets, counting_home, loop_from, repeat_code, short_number}
@@ -42,20 +42,20 @@ module _ (z : Setting) (depth x : ℕ) (within : depth < z.depths) (low high : T
 
   abbrev Loops : List Instr → Type 0
   Loops code = Runs z (16 * term_nodes low + 3 + (16 * term_nodes high + 3)
-      + (slice_index z.counts x + 1) * (7 + (7 + n) + 2)) (λ env. path_at env (repeats x low high body)) code
+      + (slice_index z.counts x + 1) * (7 + (9 + n) + 2)) (λ env. path_at env (repeats x low high body)) code
       (Ready z) (StateShown z depth (λ env. after env (repeats x low high body)))
 
   by_home : (home bound : Option ℕ)
       → counting_home (variable_location z.laid z.allocation x) (any_sets x body) ys ≡ home
       → short_number high ≡ bound
-      → length (loop_from (layout_of z) next (variable_location z.laid z.allocation x) low
-      high ys home bound) < far
-      → Loops (loop_from (layout_of z) next (variable_location z.laid z.allocation x) low
-      high ys home bound)
+      → length (loop_from (layout_of z) next (variable_location z.laid z.allocation x)
+      (mirror_code z.allocation x) low high ys home bound) < far
+      → Loops (loop_from (layout_of z) next (variable_location z.laid z.allocation x)
+      (mirror_code z.allocation x) low high ys home bound)
   by_home None bound counts short few =
       repeats_runs z depth within x low high body n known has_low has_high room_low room_high
       (iteration_near next (bounds_code (layout_of z) next low high)
-      (variable_location z.laid z.allocation x) ys few) inner
+      (variable_location z.laid z.allocation x) (mirror_code z.allocation x) ys few) inner
   by_home (Some h) (Some bound) counts short few =
       let c = counts_by (home_of z.allocation.homes x) (variable_offset z.laid x) (any_sets x body) ys h counts in
       cheaper (omega arith)

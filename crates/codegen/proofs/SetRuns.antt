@@ -1,21 +1,22 @@
 -- The code that sets a variable, or gives the result.
-use Rattle.std.proofs.Common.{◌≡◌, ℕ, ◌+◌, ◌*◌, ◌≤◌, ◌-◌, [], ◌∷◌, Option, None, Some, refl, arith}
+use Rattle.std.proofs.Common.{◌≡◌, ℕ, ◌+◌, ◌*◌, ◌≤◌, ◌-◌, [], ◌∷◌, ◌++◌, Option, None, Some, refl, arith, ap, append-nil, sym}
 use Rattle.codegen.proofs.Logic.{value_word, steps_of, Setting, base_of, Steps, Runs, gives, cheaper, idle, Ready}
 use Rattle.codegen.proofs.Logic.{layout_of}
-use Rattle.codegen.proofs.Logic.{wrote_there, home_beside, kept_less}
+use Rattle.codegen.proofs.Logic.{as_code, quiet, wrote_there, home_beside, kept_less}
 use Rattle.codegen.proofs.Language.{TermTree, set_work, value_in, path_of_result, term_nodes, value_nodes, types_of}
 use Rattle.codegen.proofs.Language.{IsResult, StraightState, with_variable, IsSet, WordType}
 use Rattle.inline.specs.Flat as flat
-use Rattle.codegen.proofs.Machine.{at_home, home_of, InSlot, set_code, result_code, result_height, variable_location}
+use Rattle.codegen.proofs.Machine.{at_home, home_of, InSlot, mirror_by, mirror_code, mirror_of, set_code, result_code}
+use Rattle.codegen.proofs.Machine.{result_height, variable_location}
 use Rattle.codegen.proofs.Machine.{variable_offset, result_offset, slots_to, height_of}
 use Rattle.rv_machine.specs.Machine as machine
 use Rattle.codegen.proofs.Arguments.{Left}
 use Rattle.codegen.proofs.Slots.{StateShown, homed_runs, suits_fits, ready_offered, ready_result, word_before, assigned}
-use Rattle.codegen.proofs.Slots.{hidden_valued, hidden_kept, ready_set}
-use Rattle.codegen.proofs.HomeWords.{ready_homed}
+use Rattle.codegen.proofs.Slots.{hidden_by, hidden_then, hidden_valued, hidden_kept, ready_set}
+use Rattle.codegen.proofs.Mirroring.{mirror_runs, ready_mirrored}
 
--- a value and a store take no more than the work of setting a word
-pub set_cost : (value : TermTree) → 16 * term_nodes value + 3 ≤ 32 * set_work None value
+-- a value, a store, and a mirror that follows take no more than the work of setting a word
+pub set_cost : (value : TermTree) → 16 * term_nodes value + 5 ≤ 32 * set_work None value
 set_cost (flat.variable x) = omega arith
 set_cost value = omega arith
 
@@ -25,12 +26,14 @@ module _ (z : Setting) where
       → base_of z + 4 * slots_to z.allocation.count (height_of value) ≤ z.size → depth ≤ z.depths
       → (h : Option ℕ) → home_of z.allocation.homes x ≡ h
       → Runs z (32 * set_work None value) (steps_of value)
-      (set_code (layout_of z) None (at_home h (InSlot (variable_offset z.laid x))) value)
+      (set_code (layout_of z) None (at_home h (InSlot (variable_offset z.laid x))) value
+      ++ mirror_by h (mirror_of z.allocation x))
       (Ready z) (StateShown z depth (λ env. with_variable env x (value_in env.variables value ∷ [])))
   set_by depth x value typed room within None away =
       let o = variable_offset z.laid x in
       let before = word_before z x typed.word typed.mutable typed.known away in
-      cheaper (omega (arith, set_cost value))
+      as_code (append-nil (set_code (layout_of z) None (InSlot o) value))
+      (cheaper (omega (arith, set_cost value))
       (gives
       (λ env s t fine ready done.
       let m = done.middle in
@@ -41,27 +44,30 @@ module _ (z : Setting) where
             (ready_offered z value env s m ready done.first) done.second;
         hidden = hidden_valued z depth within value env 4 o v s m t (omega (arith, before)) done.first done.second;
       })
-      (assigned z o typed.suits.has_type room (omega arith) (omega (arith, before, z.room))))
+      (assigned z o typed.suits.has_type room (omega arith) (omega (arith, before, z.room)))))
   set_by depth x value typed room within (Some home) at =
       let is = z.allocated.allowed x home at in
       cheaper (omega (arith, set_cost value))
       (gives
       (λ env s t fine ready done.
+      let m = done.middle in
+      let one = done.first in
       let v = value_in env.variables value in
       let fits = suits_fits z.code.profile z.declared typed.word value env.variables ready.fits typed.suits in
-      let kept = kept_less z (base_of z) (base_of z + 4 * (0 - z.allocation.count)) s t (omega arith) done.kept in
+      let kept = kept_less z (base_of z) (base_of z + 4 * (0 - z.allocation.count)) s m (omega arith) one.kept in
       record {
-        ready = ready_homed z x home v typed.word typed.mutable typed.known at fits env s t ready done.held kept
-            done.there (λ r other apart.
-            done.lower r (home_beside z.allocation.count 0 home r other.0 other.1 apart));
-        hidden = hidden_kept z depth s t within kept;
+        ready = ready_mirrored z x home v typed.word typed.mutable typed.known at fits env s m t ready kept one.there
+            (λ r other apart. one.lower r (home_beside z.allocation.count 0 home r other.0 other.1 apart)) done.second;
+        hidden = hidden_then z depth s m t (hidden_kept z depth s m within kept) (hidden_by z depth m t done.second.same);
       })
-      (homed_runs z home is typed.suits.has_type room))
+      (quiet (homed_runs z home is typed.suits.has_type room)
+      (as_code (ap (λ h. mirror_by h (mirror_of z.allocation x)) (sym at)) (mirror_runs z x))
+      (λ env s t ready done. done.held)))
 
   pub set_runs : (depth x : ℕ) (value : TermTree) → IsSet z.code.profile z.declared x value
       → base_of z + 4 * slots_to z.allocation.count (height_of value) ≤ z.size → depth ≤ z.depths
       → Runs z (32 * set_work None value) (steps_of value)
-      (set_code (layout_of z) None (variable_location z.laid z.allocation x) value)
+      (set_code (layout_of z) None (variable_location z.laid z.allocation x) value ++ mirror_code z.allocation x)
       (Ready z) (StateShown z depth (λ env. with_variable env x (value_in env.variables value ∷ [])))
   set_runs depth x value typed room within =
       set_by depth x value typed room within (home_of z.allocation.homes x) refl

@@ -14,7 +14,7 @@ use Rattle.codegen.proofs.Language.{Kind, bits_of, Values, TermHasType, TermSuit
 use Rattle.codegen.proofs.Logic.{length-set, get_or-set_same, get_or-set_other, set-get_or, All-set, none-some}
 use Rattle.codegen.proofs.Logic.{AreOfKinds, IsOfKind, terms_at}
 use Rattle.codegen.proofs.Logic.{layout_of}
-use Rattle.codegen.proofs.Logic.{same_Some, eqb-true, controls_kept, number_at_apart, number_at-with_number, HeldAt}
+use Rattle.codegen.proofs.Logic.{mirrors_kept, same_Some, eqb-true, controls_kept, number_at_apart, number_at-with_number, HeldAt}
 use Rattle.codegen.proofs.Logic.{mask_of, bytes_by, bytes_of, place_of, place_within, ends_before_result, apart_from}
 use Rattle.codegen.proofs.Logic.{elements_apart, Setting, base_of, Kept, Ready, Wrote, wrote_kept, variables_kept}
 use Rattle.codegen.proofs.Logic.{Before, After, Steps, Then, Still, steps_of, into_runs, Held, held_regs, HomesKept}
@@ -108,6 +108,7 @@ module _ (z : Setting) where
               ∙ ready.variables_there n f j is out more) y e;
           controls_there = λ c among read. controls_kept z env s t ready homes c among read
               (apart 4 (control_offset z.laid c) (inr (omega (arith, ends_before_result z.laid x d lies))));
+          mirrors_there = mirrors_kept z env s t ready homes;
         }
 
   module _ (x i v w : ℕ) (d : FlatVariable) (known : slice_get z.declared x ≡ Some d)
@@ -349,6 +350,7 @@ module _ (z : Setting) where
     controls_there = λ c below read. controls_kept z env s t ready wrote.homes c below read
         (other_number z 4 (result_offset z.laid) w 4 (control_offset z.laid c) s t wrote
         (inr (omega arith)));
+    mirrors_there = mirrors_kept z env s t ready wrote.homes;
   }
 
   -- a word without a home lies before the result

@@ -2,7 +2,7 @@
 -- set where the mask is all ones, and the old one where it is 0. It is written in any case.
 use Rattle.std.proofs.Common.{◌≡◌, ℕ, ◌+◌, ◌*◌, ◌^◌, ◌<◌, ◌≤◌, ◌==◌, ◌≢◌, nat_lt, eq-eqb, ne_eqb, Bool, true, false}
 use Rattle.std.proofs.Common.{if◌then◌else◌, List, [], ◌∷◌, ◌++◌, Option, None, Some, length, slice_index, refl, sym}
-use Rattle.std.proofs.Common.{ap, ap₂, ◌∙◌, subst, arith, append_assoc, inl, bit_and, bit_xor, ◌⊎◌, slice_get}
+use Rattle.std.proofs.Common.{ap, ap₂, ◌∙◌, subst, arith, append-nil, append_assoc, inl, bit_and, bit_xor, ◌⊎◌, slice_get}
 use Rattle.std.proofs.Common.{◌||◌}
 use Rattle.codegen.proofs.Logic.{lt-ltb, steps_of, mask_of, merged, merge, take, place_of, Setting, base_of, Steps}
 use Rattle.codegen.proofs.Logic.{layout_of}
@@ -13,14 +13,14 @@ use Rattle.codegen.proofs.Language.{TermTree, word_as, value_in, term_nodes, typ
 use Rattle.codegen.proofs.Language.{with_variable, with_element, after, IsSet, WordType, bits_of, FlatVariable}
 use Rattle.codegen.proofs.Language.{TermHasType, numbers_in}
 use Rattle.codegen.proofs.Machine.{at_home, control_location, fetch_code, home_of, InSlot, Instr, is_unread, merge_code}
-use Rattle.codegen.proofs.Machine.{set_under_code, read_code, read_register, variable_offset}
+use Rattle.codegen.proofs.Machine.{InRegister, mirror_by, mirror_code, mirror_of, variable_location, set_under_code, read_code, read_register, variable_offset}
 use Rattle.codegen.proofs.Machine.{slots_to, load_code, store_code, height_of, Sw, number_at, statement_code, Location}
 use Rattle.rv_machine.specs.Machine as machine
 use Rattle.codegen.proofs.Slots.{StateShown, alone, ready_same, suits_fits, read_runs, read_source, source_apart}
 use Rattle.codegen.proofs.Slots.{ready_valued, ready_with, word_before, hidden_then, hidden_by, hidden_kept}
 use Rattle.codegen.proofs.Slots.{hidden_wrote, ready_put, ready_alone, ready_chosen, wrote_as, Hidden}
 use Rattle.codegen.proofs.Slots.{cut_number, IsSourceRegister, offered_put}
-use Rattle.codegen.proofs.HomeWords.{ready_homed}
+use Rattle.codegen.proofs.Mirroring.{mirror_runs, ready_mirrored}
 use Rattle.codegen.proofs.Masks.{fetched_homes, home_apart, mask_apart, mask_register, mask_free, mask_runs}
 use Rattle.std.proofs.lemmas.Nat.{and_mask}
 use Rattle.std.specs.Int.Bits.{and_zero_r}
@@ -39,6 +39,12 @@ use Rattle.codegen.proofs.Logic.{AreOfKinds}
 chosen_fits : (b : Bool) (v old n : ℕ) → v < n → old < n → (if b then v else old) < n
 chosen_fits true v old n h k = h
 chosen_fits false v old n h k = k
+
+-- code behind one of two lists stands behind each
+choice_append : (b : Bool) (xs ys zs : List Instr)
+    → (if b then xs else ys) ++ zs ≡ (if b then xs ++ zs else ys ++ zs)
+choice_append true xs ys zs = refl
+choice_append false xs ys zs = refl
 
 module _ (z : Setting) where
   -- where a word is set or kept
@@ -283,18 +289,21 @@ module _ (z : Setting) (depth : ℕ) (within : depth ≤ z.depths) (c : ℕ) (am
       -- in its home
       pub home_under : (home : ℕ) → home_of z.allocation.homes x ≡ Some home
           → Chooses (λ q. (q == home) || (q == 5)) New home home (mask_register z c 7) combine
-          → Sets (n + 3 + length combine) steps (front ++ (fetch_code control 7 ++ combine))
+          → Sets (n + 3 + length combine + 2) steps
+          ((front ++ (fetch_code control 7 ++ combine)) ++ mirror_code z.allocation x)
       home_under home at chooses =
           let works = λ (q : ℕ). (q == home) || (q == 5) in
           let is = z.allocated.allowed x home at in
-          as_code (sym (append_assoc front (fetch_code control 7) combine))
+          as_code (ap (λ is. is ++ mirror_code z.allocation x) (sym (append_assoc front (fetch_code control 7) combine)))
           (gives
-          (λ env s t fine ready done.
-          let m1 = done.first.middle in
-          let m2 = done.middle in
-          let one = done.first.first in
-          let mask = done.first.second in
-          let two = done.second in
+          (λ env s u fine ready done.
+          let m1 = done.first.first.middle in
+          let m2 = done.first.middle in
+          let t = done.middle in
+          let one = done.first.first.first in
+          let mask = done.first.first.second in
+          let two = done.first.second in
+          let followed = done.second in
           let b = env.controls c in
           let v = new env in
           let old = slice_index (env.variables x) 0 in
@@ -311,21 +320,24 @@ module _ (z : Setting) (depth : ℕ) (within : depth ≤ z.depths) (c : ℕ) (am
           (new_stays m1.regs m2.regs v (λ q first second. mask.others q second) one.2)
           (ready2.homes_there x home d typed.known at) mask.there in
           record {
-            ready = under_word z b x v env t count
-                (ready_homed z x home (if b then v else old) typed.word typed.mutable typed.known at
-                (chosen_fits b v old (2 ^ bits_of kind) new_fits old_fits) env m2 t ready2 two.held
+            ready = under_word z b x v env u count
+                (ready_mirrored z x home (if b then v else old) typed.word typed.mutable typed.known at
+                (chosen_fits b v old (2 ^ bits_of kind) new_fits old_fits) env m2 t u ready2
                 (kept_by z (base_of z) m2 t two.same) made
                 (λ q other apart. ap (λ (regs : ℕ → ℕ). regs q) two.registers
                 ∙ register_left works combine m2.regs q chooses.plain
                 (or_from (q == home) (q == 5) (ne_eqb q home apart)
-                (ne_eqb q 5 (home_apart z q 5 other (omega arith))))));
-            hidden = hidden_then z depth s m1 t one.1 (hidden_by z depth m1 t (two.same ∙ mask.same));
+                (ne_eqb q 5 (home_apart z q 5 other (omega arith))))) followed);
+            hidden = hidden_then z depth s m1 u one.1 (hidden_by z depth m1 u (followed.same ∙ (two.same ∙ mask.same)));
           })
+          (quiet
           (quiet
           (quiet begins (mask_runs z c 7 among read (omega arith) (omega arith)) (λ env s t ready done. done.0))
           (computing_within z works combine chooses.plain
           (λ r low. or_from (r == home) (r == 5) (ne_eqb r home (λ e. omega (arith, z.allocated.some, is.0, low, e)))
           (ne_eqb r 5 (λ e. omega (arith, low, e)))))
+          (λ env s t ready done. done.second.held))
+          (mirror_runs z x)
           (λ env s t ready done. done.second.held)))
 
     -- By its value, or by 0 where that is known to be 0.
@@ -361,22 +373,30 @@ module _ (z : Setting) (depth : ℕ) (within : depth ≤ z.depths) (c : ℕ) (am
       works_five : works 5 ≡ true
       works_five = ap (λ b. b || true) (ne_eqb 5 home (λ e. home_beside (sym e)))
 
+    -- code behind which a mirror follows
+    follows : (home : ℕ) → home_of z.allocation.homes x ≡ Some home → (is : List Instr)
+        → is ++ mirror_by (Some home) (mirror_of z.allocation x) ≡ is ++ mirror_code z.allocation x
+    follows home at is = ap (λ (h : Option ℕ). is ++ mirror_by h (mirror_of z.allocation x)) (sym at)
+
     module _ (zero : (env : StraightState) → new env ≡ 0) where
       nothing : Runs z 0 none [] (Ready z) (Begun (λ regs v. v ≡ 0) new)
       nothing = idle (λ env s ready. (ready, λ o low high. refl, zero env))
 
       erased_at : (h : Option ℕ) → home_of z.allocation.homes x ≡ h
-          → Sets 11 none (erase_under_code (at_home h (InSlot (variable_offset z.laid x))) control)
+          → Sets 13 none (erase_under_code (at_home h (InSlot (variable_offset z.laid x))) control
+          ++ mirror_by h (mirror_of z.allocation x))
       erased_at None away =
-          cheaper (omega arith)
+          as_code (append-nil (erase_under_code (InSlot (variable_offset z.laid x)) control))
+          (cheaper (omega arith)
           (slot_under {New = λ regs v. v ≡ 0} (λ regs after v same none. none) nothing away
-          (erases (λ q. q == 5) 5 5 6 k refl refl five five six k_free (λ e. omega (arith, e)) beside))
+          (erases (λ q. q == 5) 5 5 6 k refl refl five five six k_free (λ e. omega (arith, e)) beside)))
       erased_at (Some home) at =
           let free = home_free home at in
-          cheaper (omega arith)
+          as_code (follows home at (erase_under_code (InRegister home) control))
+          (cheaper (omega arith)
           (home_under {New = λ regs v. v ≡ 0} (λ regs after v same none. none) nothing home at
           (erases (works home at) home 5 home k (works_home home at) (works_five home at) free five free k_free
-          (home_beside home at) beside))
+          (home_beside home at) beside)))
 
     module _ (room : base_of z + 4 * slots_to z.allocation.count (height_of value) ≤ z.size) where
       abbrev r : ℕ
@@ -394,26 +414,34 @@ module _ (z : Setting) (depth : ℕ) (within : depth ≤ z.depths) (c : ℕ) (am
           (source_apart z source 7 (omega arith) (λ e. omega (arith, e))) ∙ there
 
       merged_at : (h : Option ℕ) → home_of z.allocation.homes x ≡ h
-          → Sets (32 * (1 + term_nodes value)) (steps_of value) (read_code (layout_of z) 5 0 value
+          → Sets (32 * (1 + term_nodes value)) (steps_of value) ((read_code (layout_of z) 5 0 value
           ++ set_under_code r (at_home h (InSlot (variable_offset z.laid x))) control)
+          ++ mirror_by h (mirror_of z.allocation x))
       merged_at None away =
-          cheaper (omega arith)
+          as_code (append-nil (read_code (layout_of z) 5 0 value
+          ++ set_under_code r (InSlot (variable_offset z.laid x)) control))
+          (cheaper (omega arith)
           (slot_under {New = λ regs v. regs r ≡ v} stays (read_begun typed.suits.has_type room) away
-          (merges (λ q. q == 5) 5 5 6 k refl refl five five six k_free (λ e. omega (arith, e)) beside r r_free))
+          (merges (λ q. q == 5) 5 5 6 k refl refl five five six k_free (λ e. omega (arith, e)) beside r r_free)))
       merged_at (Some home) at =
           let free = home_free home at in
-          cheaper (omega arith)
+          as_code (follows home at (read_code (layout_of z) 5 0 value ++ set_under_code r (InRegister home) control))
+          (cheaper (omega arith)
           (home_under {New = λ regs v. regs r ≡ v} stays (read_begun typed.suits.has_type room) home at
           (merges (works home at) home 5 home k (works_home home at) (works_five home at) free five free k_free
-          (home_beside home at) beside r r_free))
+          (home_beside home at) beside r r_free)))
 
       pub set_under_runs : Sets (32 * (1 + term_nodes value)) (steps_of value)
           (statement_code (layout_of z) depth (set (Some c) x value))
       set_under_runs =
-          by_test (gives_zero z.allocation value)
+          let l = variable_location z.laid z.allocation x in
+          as_code
+          (choice_append (gives_zero z.allocation value) (erase_under_code l control)
+          (read_code (layout_of z) 5 0 value ++ set_under_code r l control) (mirror_code z.allocation x))
+          (by_test (gives_zero z.allocation value)
           (λ is.
           let zero = zero_known z.allocation value is in
           along (λ env. (known value 0 zero env.variables).1)
           (cheaper (omega arith)
           (erased_at (λ env. (known value 0 zero env.variables).0) (home_of z.allocation.homes x) refl)))
-          (λ is. merged_at (home_of z.allocation.homes x) refl)
+          (λ is. merged_at (home_of z.allocation.homes x) refl))

@@ -1,11 +1,12 @@
 -- What holds of weights however words are used: so there is one for each word.
-use Rattle.std.proofs.Common.{◌≡◌, ℕ, ◌+◌, List, [], ◌∷◌, length, length-append, Option, None, Some, ◌∙◌, arith}
-use Rattle.std.proofs.Common.{replicate}
+use Rattle.std.proofs.Common.{◌≡◌, ℕ, zero, suc, ◌+◌, List, [], ◌∷◌, length, length-append, Option, None, Some, refl}
+use Rattle.std.proofs.Common.{replicate, ap, ◌∙◌, arith}
 use Rattle.branch_removal.specs.Straight as straight
 use Rattle.codegen.proofs.Language.{StraightBlock, StraightProgram, StraightTree, TermTree, first, nothing}
 use Rattle.codegen.proofs.Logic.{length-replicate, length-set}
 use Rattle.codegen.specs.Below.{used, used_by, used_by_all, used_in, used_in_result, used_in_terms, weight_inside}
 use Rattle.codegen.specs.Below.{weights_of}
+use Rattle.codegen.specs.private.MirrorUses.{mirror_weights_from, mirror_weights_of, Uses, uses_of}
 use Rattle.codegen.specs.private.Uses.{control_weights_of, controls_read_by, controls_read_by_all, used_within}
 use Rattle.codegen.specs.private.Uses.{word_weights_of}
 use Rattle.inline.specs.Flat as flat
@@ -84,3 +85,13 @@ word_weights_length p =
     let controls = all_read_keep (λ weights. length weights ≡ p.controls) (length_kept p.controls) 1 p.body
     {weights = replicate p.controls 0} (length-replicate p.controls 0) in
     omega (arith, length-append (weights_of p) (control_weights_of p), variables, controls)
+
+-- Mirrors have one for each variable.
+
+mirrors_length : (uses : Uses) (words : List ℕ) (x count : ℕ)
+    → length (mirror_weights_from uses words x count) ≡ count
+mirrors_length uses words x zero = refl
+mirrors_length uses words x (suc count) = ap suc (mirrors_length uses words (x + 1) count)
+
+pub mirror_weights_length : (p : StraightProgram) → length (mirror_weights_of p) ≡ length p.declared
+mirror_weights_length p = mirrors_length (uses_of p) (word_weights_of p) 0 (length p.declared)

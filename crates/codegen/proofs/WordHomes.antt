@@ -1,15 +1,21 @@
--- The homes of optimised code fit its program, whichever words are chosen.
-use Rattle.std.proofs.Common.{◌≡◌, ℕ, zero, suc, ◌+◌, ◌<◌, ◌≤◌, ◌&&◌, Bool, true, false, cond, nat_lt, List, ◌∷◌}
-use Rattle.std.proofs.Common.{length, Option, None, Some, slice_get, refl, ap, ◌∙◌, arith}
+-- The homes and mirrors of optimised code fit its program, whichever words are chosen.
+use Rattle.std.proofs.Common.{◌≡◌, ℕ, zero, suc, ◌+◌, ◌<◌, ◌≤◌, ◌&&◌, Bool, true, false, cond, nat_lt, List, [], ◌∷◌}
+use Rattle.std.proofs.Common.{drop, length, length-append, Option, None, Some, slice_get, take, unwrap_or, refl, ap}
+use Rattle.std.proofs.Common.{sym, ◌∙◌, arith}
 use Rattle.codegen.proofs.Choices.{of_choice}
 use Rattle.codegen.proofs.Language.{FlatVariable, StraightProgram}
 use Rattle.codegen.proofs.Logic.{nat_tests, none-some, same_Some}
 use Rattle.codegen.proofs.Machine.{home_count, home_of, IsFitting}
+use Rattle.codegen.specs.private.Generated.{mirror_count}
+use Rattle.codegen.specs.declared.expression_code.allocation.Mirror.{Mirror}
+use Rattle.codegen.specs.expression_code.Allocation.{IsAllocation, mirror_if, mirror_of}
 use Rattle.codegen.proofs.expression_code_lemmas.WorkRegisters.{when_some}
 use Rattle.codegen.proofs.ReadControls.{all_read_kept}
-use Rattle.codegen.proofs.WeightLengths.{word_weights_length}
-use Rattle.codegen.specs.private.Homes.{gets_home, home_after, home_at, homes_from, is_chosen, is_no_array, is_wanted}
-use Rattle.codegen.specs.private.Homes.{is_word, temporary_registers, word_homes}
+use Rattle.codegen.proofs.WeightLengths.{mirror_weights_length, word_weights_length}
+use Rattle.codegen.specs.private.Homes.{all_weights_of, gets_home, home_after, home_at, homes_from, is_chosen}
+use Rattle.codegen.specs.private.Homes.{is_no_array, is_wanted, is_word, mirror_in, mirrors_from, registers_behind}
+use Rattle.codegen.specs.private.Homes.{temporary_registers, word_homes}
+use Rattle.codegen.specs.private.MirrorUses.{mirror_kind, mirror_weights_of, Uses, uses_of}
 use Rattle.codegen.specs.private.Uses.{word_weights_of}
 
 left_by : (wanted : Bool) (n : ℕ) → (wanted && nat_lt n 28) ≡ true → n < 28
@@ -85,24 +91,170 @@ array_unwanted next declared weights x d size known array =
     ap (λ (o : Option FlatVariable). is_no_array o && is_chosen next weights x) known
     ∙ ap (λ (elements : Option ℕ). is_word elements && is_chosen next weights x) array
 
-pub word_homes_fit : (p : StraightProgram) → IsFitting p (word_homes p)
-word_homes_fit p =
-    let first = 5 + temporary_registers p in
-    let weights = word_weights_of p in
-    let wanted = is_wanted first p.declared weights in
-    let count = length weights in
-    record {
-      allocated = record {
-        some = omega arith;
-        few = omega arith;
-        allowed = λ x home is. let h = allowed wanted count 0 first x home is in (omega (arith, h.0), h.1);
-        apart = λ x y home is other. apart wanted count 0 first x y home is other;
-        words = λ x d size known is.
-            let here : 0 + x ≡ x = omega arith in
-            unwanted wanted count 0 first x
-            (ap wanted here ∙ array_unwanted first p.declared weights x d size known is);
-      };
-      within = omega (arith, lengths wanted count 0 first, word_weights_length p);
-      few = omega (arith, counts wanted count 0 first (omega arith));
-      read = all_read_kept p;
-    }
+-- there is a register or none for each word, and for the mirror of each variable
+pub registers_length : (first : ℕ) (p : StraightProgram)
+    → length (registers_behind first p) ≡ length (word_weights_of p) + length p.declared
+registers_length first p =
+    let weights = all_weights_of p in
+    omega (
+      arith,
+      lengths (is_wanted first p.declared weights) (length weights) 0 first,
+      length-append (word_weights_of p) (mirror_weights_of p),
+      mirror_weights_length p,
+    )
+
+-- The first registers, and those behind them.
+
+within_there : (registers : List (Option ℕ)) (x home : ℕ) → home_of registers x ≡ Some home → x < length registers
+within_there [] x home is = absurd (none-some home is)
+within_there (register ∷ registers) zero home is = omega arith
+within_there (register ∷ registers) (suc x) home is = omega (arith, within_there registers x home is)
+
+among_first : (k : ℕ) (registers : List (Option ℕ)) (x home : ℕ) → home_of (take k registers) x ≡ Some home
+    → (home_of registers x ≡ Some home) × (x < k)
+among_first zero registers x home is = absurd (none-some home is)
+among_first (suc k) [] x home is = absurd (none-some home is)
+among_first (suc k) (register ∷ registers) zero home is = (is, omega arith)
+among_first (suc k) (register ∷ registers) (suc x) home is =
+    let rest = among_first k registers x home is in
+    (rest.0, omega (arith, rest.1))
+
+none_among_first : (k : ℕ) (registers : List (Option ℕ)) (x : ℕ) → home_of registers x ≡ None
+    → home_of (take k registers) x ≡ None
+none_among_first zero registers x is = refl
+none_among_first (suc k) [] x is = refl
+none_among_first (suc k) (register ∷ registers) zero is = is
+none_among_first (suc k) (register ∷ registers) (suc x) is = none_among_first k registers x is
+
+behind_first : (k : ℕ) (registers : List (Option ℕ)) (x : ℕ)
+    → home_of (drop k registers) x ≡ home_of registers (k + x)
+behind_first zero registers x =
+    let here : x ≡ 0 + x = omega arith in
+    ap (home_of registers) here
+behind_first (suc k) [] x = refl
+behind_first (suc k) (register ∷ registers) x =
+    let next : suc (k + x) ≡ suc k + x = omega arith in
+    behind_first k registers x ∙ ap (home_of (register ∷ registers)) next
+
+length_first : (k : ℕ) (registers : List (Option ℕ)) → length (take k registers) ≤ k
+length_first zero registers = omega arith
+length_first (suc k) [] = omega arith
+length_first (suc k) (register ∷ registers) = omega (arith, length_first k registers)
+
+count_parts : (k : ℕ) (registers : List (Option ℕ))
+    → home_count (take k registers) + home_count (drop k registers) ≡ home_count registers
+count_parts zero registers = omega arith
+count_parts (suc k) [] = omega arith
+count_parts (suc k) (None ∷ registers) = count_parts k registers
+count_parts (suc k) (Some register ∷ registers) = omega (arith, count_parts k registers)
+
+-- Mirrors in registers.
+module _ (uses : Uses) where
+  mirror_register : (x : ℕ) (register : Option ℕ) (mirror : Mirror) → mirror_in uses x register ≡ Some mirror
+      → register ≡ Some mirror.register
+  mirror_register x None mirror is = absurd (none-some mirror is)
+  mirror_register x (Some register) mirror is =
+      ap (λ (m : Mirror). Some m.register)
+      (same_Some (record { register = register; kind = mirror_kind uses x }) mirror is)
+
+  mirror_there : (x : ℕ) (registers : List (Option ℕ)) (y : ℕ) (mirror : Mirror)
+      → unwrap_or (slice_get (mirrors_from uses x registers) y) None ≡ Some mirror
+      → home_of registers y ≡ Some mirror.register
+  mirror_there x [] y mirror is = absurd (none-some mirror is)
+  mirror_there x (register ∷ registers) zero mirror is = mirror_register x register mirror is
+  mirror_there x (register ∷ registers) (suc y) mirror is = mirror_there (x + 1) registers y mirror is
+
+  mirrors_count : (x : ℕ) (registers : List (Option ℕ))
+      → mirror_count (mirrors_from uses x registers) ≡ home_count registers
+  mirrors_count x [] = refl
+  mirrors_count x (None ∷ registers) = mirrors_count (x + 1) registers
+  mirrors_count x (Some register ∷ registers) = ap (λ n. 1 + n) (mirrors_count (x + 1) registers)
+
+mirror_given : (home : Option ℕ) (given : Option Mirror) (mirror : Mirror) → mirror_if home given ≡ Some mirror
+    → given ≡ Some mirror
+mirror_given None given mirror is = absurd (none-some mirror is)
+mirror_given (Some home) given mirror is = is
+
+module _ (p : StraightProgram) where
+  abbrev beginning : ℕ
+  beginning = 5 + temporary_registers p
+
+  abbrev weights : List ℕ
+  weights = all_weights_of p
+
+  abbrev wanted : ℕ → Bool
+  wanted = is_wanted beginning p.declared weights
+
+  abbrev words : ℕ
+  words = length (word_weights_of p)
+
+  abbrev registers : List (Option ℕ)
+  registers = registers_behind beginning p
+
+  home_given : (x home : ℕ) → home_of (word_homes p).homes x ≡ Some home
+      → (home_of registers x ≡ Some home) × (x < words)
+  home_given x home is = among_first words registers x home is
+
+  mirror_home : (x : ℕ) (mirror : Mirror) → mirror_of (word_homes p) x ≡ Some mirror
+      → home_of registers (words + x) ≡ Some mirror.register
+  mirror_home x mirror is =
+      let given = mirror_given (home_of (word_homes p).homes x) (unwrap_or (slice_get (word_homes p).mirrors x) None)
+      mirror is in
+      sym (behind_first words registers x) ∙ mirror_there (uses_of p) 0 (drop words registers) x mirror given
+
+  in_range : (x home : ℕ) → home_of registers x ≡ Some home → (beginning ≤ home) × (home < 28)
+  in_range x home is = allowed wanted (length weights) 0 beginning x home is
+
+  one_word : (x y home : ℕ) → home_of registers x ≡ Some home → home_of registers y ≡ Some home → x ≡ y
+  one_word x y home is other = apart wanted (length weights) 0 beginning x y home is other
+
+  mirror_within : (x : ℕ) (mirror : Mirror) → mirror_of (word_homes p) x ≡ Some mirror → x < length p.declared
+  mirror_within x mirror is =
+      omega (
+        arith,
+        within_there registers (words + x) mirror.register (mirror_home x mirror is),
+        registers_length beginning p,
+      )
+
+  no_array : (x : ℕ) (d : FlatVariable) (size : ℕ) → slice_get p.declared x ≡ Some d → d.elements ≡ Some size
+      → home_of (word_homes p).homes x ≡ None
+  no_array x d size known is =
+      let here : 0 + x ≡ x = omega arith in
+      none_among_first words registers x (unwanted wanted (length weights) 0 beginning x
+      (ap wanted here ∙ array_unwanted beginning p.declared weights x d size known is))
+
+  word_homes_allocated : IsAllocation p.declared (word_homes p)
+  word_homes_allocated = record {
+    some = omega arith;
+    few = omega arith;
+    allowed = λ x home is.
+        let h = in_range x home (home_given x home is).0 in
+        (omega (arith, h.0), omega (arith, h.1));
+    apart = λ x y home is other. one_word x y home (home_given x home is).0 (home_given y home other).0;
+    words = no_array;
+    mirrored = λ x mirror is.
+        let h = in_range (words + x) mirror.register (mirror_home x mirror is) in
+        (mirror_within x mirror is, omega (arith, h.0), omega (arith, h.1));
+    mirror_apart = λ x y home mirror is other same.
+        let there = home_given y home other in
+        let one = one_word y (words + x) mirror.register (there.0 ∙ ap Some same) (mirror_home x mirror is) in
+        absurd (omega (arith, one, there.1));
+    mirrors_apart = λ x y one other is that same.
+        let both = one_word (words + x) (words + y) other.register (mirror_home x one is ∙ ap Some same)
+        (mirror_home y other that) in
+        omega (arith, both);
+  }
+
+  pub word_homes_fit : IsFitting p (word_homes p)
+  word_homes_fit = record {
+    allocated = word_homes_allocated;
+    within = omega (arith, length_first words registers, word_weights_length p);
+    few =
+        omega (
+          arith,
+          count_parts words registers,
+          mirrors_count (uses_of p) 0 (drop words registers),
+          counts wanted (length weights) 0 beginning (omega arith),
+        );
+    read = all_read_kept p;
+  }

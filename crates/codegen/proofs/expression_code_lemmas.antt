@@ -17,6 +17,7 @@ pub mod BoolCode
 pub mod WorkedCode
 pub mod OperandRuns
 pub mod Indices
+pub mod Mirrors
 pub mod Elements
 pub mod ExpressionRuns
 pub mod SiteRuns

@@ -11,6 +11,7 @@ pub mod Fresh
 pub mod Placed
 pub mod Generated
 pub mod Uses
+pub mod MirrorUses
 pub mod Reads
 pub mod Room
 pub mod Homes

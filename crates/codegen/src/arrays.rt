@@ -4,13 +4,13 @@ ghost use Rattle.std.specs.Prelude.{◌≡◌, ◌≤◌, ◌<◌, ◌+◌, ◌*
 ghost use Rattle.codegen.specs.private.Emitted.{store_by, element_store_code, clear_code, fill_code, index_code};
 ghost use Rattle.codegen.specs.Below.{Addi, Immediate, IsAmong, Register, Store, Sub, Sw, term_tree};
 ghost use Rattle.codegen.specs.private.Emitted.{into_element_code, put_code, put_element_code, put_under_code};
-ghost use Rattle.codegen.specs.private.Emitted.{put_under_near_code, read_register};
+ghost use Rattle.codegen.specs.private.Emitted.{into_near_code, near_store_code, put_under_near_code, read_register};
 ghost use Rattle.codegen.specs.private.Jumps.{loop_code};
 ghost use Rattle.codegen.specs.expression_code.Registers.{zero_register, value_register, second_register};
 ghost use Rattle.codegen.specs.expression_code.Registers.{third_register};
 ghost use Rattle.codegen.specs.private.Placed.{IsPlaced, ArePlacedTerms};
 
-use crate::expression_code::emit::{self, address, load_by, near};
+use crate::expression_code::emit::{self, NearPlace, address, load_by, near};
 use crate::expression_code::{Layout, Location, fetch};
 use crate::jumping::repeat;
 use crate::masking;
@@ -34,6 +34,21 @@ fn store_by(kind: Kind) -> StoreOperation
     }
 }
 
+/// A register into an element that is reached at once.
+fn store_near(
+    code: &mut Vec<Instr>,
+    value: Reg,
+    kind: Kind,
+    place: NearPlace,
+) -> Result<(), AllocError>
+    requires { place.offset < 2048 }
+    ensures { OnOk result (code.new.items ≡ code.old.items ++ near_store_code value kind place) }
+{
+    let low = emit::lower_part(place.offset);
+    code.push(Instr::Store(store_by(kind), value, place.base, low))?;
+    Ok(())
+}
+
 /// A register into an element of a fixed place.
 fn store_element(
     code: &mut Vec<Instr>,
@@ -43,12 +58,12 @@ fn store_element(
 ) -> Result<(), AllocError>
     ensures { OnOk result (code.new.items ≡ code.old.items ++ element_store_code value kind offset) }
 {
+    if offset < emit::NEAR {
+        let base = Reg::X2;
+        return store_near(code, value, kind, NearPlace { base, offset });
+    }
     let low = emit::lower_part(offset);
     let operation = store_by(kind);
-    if offset < emit::NEAR {
-        code.push(Instr::Store(operation, value, Reg::X2, low))?;
-        return Ok(());
-    }
     let upper = emit::upper_part(offset);
     code.push(Instr::Upper(UpperOperation::Lui, Reg::X28, upper))?;
     code.push(Instr::Register(RegisterOperation::Add, Reg::X28, Reg::X28, Reg::X2))?;
@@ -103,6 +118,23 @@ fn into_element(
 {
     let value = stored(code, layout, value)?;
     store_element(code, value, kind, offset)
+}
+
+/// The value of an expression into an element that is reached at once.
+fn into_near(
+    code: &mut Vec<Instr>,
+    layout: &Layout<'_>,
+    kind: Kind,
+    place: NearPlace,
+    value: &Term,
+) -> Result<(), AllocError>
+    requires value { IsPlaced layout.now 0 (term_tree value.now) }
+    requires near { place.offset < 2048 }
+    ensures { OnOk result (code.new.items ≡ code.old.items
+        ++ into_near_code layout.now kind place (term_tree value.now)) }
+{
+    let value = stored(code, layout, value)?;
+    store_near(code, value, kind, place)
 }
 
 /// Values into the elements of an array, the first at an offset.
@@ -185,30 +217,31 @@ fn put_under_at(
     Ok(())
 }
 
-/// A value into the element at an offset that is near, where a control value is true, and else what it holds.
+/// A value into the element that is reached at once, where a control value is true, and else what it holds.
 fn put_under_near(
     code: &mut Vec<Instr>,
     layout: &Layout<'_>,
     control: &Location,
     kind: Kind,
-    offset: u32,
+    place: NearPlace,
     value: &Term,
 ) -> Result<(), AllocError>
     requires value { IsPlaced layout.now 0 (term_tree value.now) }
-    requires near { offset < 2048 }
+    requires near { place.offset < 2048 }
     ensures { OnOk result (code.new.items ≡ code.old.items
-        ++ put_under_near_code layout.now control.now kind offset (term_tree value.now)) }
+        ++ put_under_near_code layout.now control.now kind place (term_tree value.now)) }
 {
+    let NearPlace { base, offset } = place;
     let value = read(code, layout, Reg::X5, 0, value)?;
-    near(code, Reg::X6, kind, offset)?;
+    near(code, Reg::X6, kind, NearPlace { base, offset })?;
     fetch(code, control, Reg::X7)?;
     let mask = control.register(Reg::X7);
     masking::merge(code, Reg::X5, Reg::X5, value, Reg::X6, mask)?;
-    store_element(code, Reg::X5, kind, offset)
+    store_near(code, Reg::X5, kind, NearPlace { base, offset })
 }
 
-/// A value into an element of an array. Within a control value it is written in any case. Where the index is a number
-/// and the store holds the element's offset, no address is computed.
+/// A value into an element of an array. Within a control value it is written in any case. Where the store reaches the
+/// element at once, no address is computed.
 pub fn put(
     code: &mut Vec<Instr>,
     layout: &Layout<'_>,
@@ -225,20 +258,20 @@ pub fn put(
         ++ put_element_code layout.now within array (term_tree place.now) (term_tree value.now)) }
 {
     let kind = layout.kind(array);
-    let known = layout.near_element(array, place);
+    let near = layout.near_place(array, place);
     let part = layout.computed_index(array, place);
     let offset = layout.access_offset(array, place);
     let Some(control) = within else {
         let value = stored_value(layout, kind, value);
-        if let Some(offset) = known {
-            return into_element(code, layout, kind, offset, value);
+        if let Some(near) = near {
+            return into_near(code, layout, kind, near, value);
         }
         let (index, value) = index(code, layout, part, value)?;
         return put_at(code, index, value, kind, offset);
     };
     let control = layout.control_location(control);
-    if let Some(offset) = known {
-        return put_under_near(code, layout, &control, kind, offset, value);
+    if let Some(near) = near {
+        return put_under_near(code, layout, &control, kind, near, value);
     }
     let (index, value) = index(code, layout, part, value)?;
     put_under_at(code, index, value, &control, kind, offset)

@@ -13,7 +13,7 @@ mod numbers;
 mod operators;
 mod truths;
 
-pub use allocation::{Allocation, REGISTER_COUNT};
+pub use allocation::{Allocation, Mirror, REGISTER_COUNT};
 pub use expressions::{expression, height, into};
 pub use laws::expressions_are_computed;
 pub use layout::{Layout, WORD_BYTES, offsets, slots, slotted};

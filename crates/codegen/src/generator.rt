@@ -5,9 +5,9 @@ ghost use Rattle.codegen.specs.Exact.{fields_of, optimised_fields_of, optimised_
 ghost use Rattle.codegen.specs.Followed.{IsGenerated};
 ghost use Rattle.codegen.specs.private.Fresh.{homes_but, starts_fresh};
 ghost use Rattle.codegen.specs.Below.{Ecall, most_nodes, most_work, program_height, word_of};
-ghost use Rattle.codegen.specs.expression_code.Allocation.{slots_to};
+ghost use Rattle.codegen.specs.expression_code.Allocation.{home_of, slots_to};
 ghost use Rattle.codegen.specs.expression_code.Layout.{slotted};
-ghost use Rattle.codegen.specs.private.Generated.{entry_code, first_code, program_code, result_slot};
+ghost use Rattle.codegen.specs.private.Generated.{entry_code, first_code, mirrors_code, program_code, result_slot};
 ghost use Rattle.codegen.specs.private.Generated.{most_words, step_limit, image_of, image_within};
 ghost use Rattle.codegen.specs.private.Jumps.{IsFar};
 ghost use Rattle.codegen.specs.private.Room.{HasRoom, IsFitting, frame_of};
@@ -92,6 +92,30 @@ fn end(code: &mut Vec<Instr>) -> Result<(), AllocError>
     Ok(())
 }
 
+/// The home of a word, where it has one.
+fn home_of(homes: &[Option<Reg>], number: usize) -> Option<Reg>
+    ensures { result ≡ home_of homes.now number }
+{
+    homes.get(number).copied().unwrap_or(None)
+}
+
+/// The mirrors of the same words follow them.
+fn enter_mirrors(
+    code: &mut Vec<Instr>,
+    straight: &StraightCode<'_>,
+    allocation: &Allocation<'_>,
+) -> Result<(), AllocError>
+    ensures { OnOk result (code.new.items ≡ code.old.items
+        ++ mirrors_code (homes_but (starts_fresh straight.now) 0 allocation.now.homes) 0 allocation.now.mirrors) }
+{
+    for (number, mirror) in allocation.mirrors().iter().enumerate() {
+        if !starts_fresh(straight, number) {
+            emit::mirror(code, home_of(allocation.homes(), number), *mirror)?;
+        }
+    }
+    Ok(())
+}
+
 /// The instructions of a program, in its layout.
 fn program_code(
     alloc: Global,
@@ -106,6 +130,7 @@ fn program_code(
 {
     let mut code = Vec::new(alloc);
     enter(&mut code, straight, layout)?;
+    enter_mirrors(&mut code, straight, layout.allocation())?;
     statements(alloc, &mut code, layout, 0, straight.body())?;
     if let Some(value) = straight.value() {
         assign(&mut code, layout, value, layout.result())?;
@@ -279,9 +304,12 @@ pub fn generate_optimised(
     ensures memory { IfErr result (λ refusal. IsWantOfMemory refusal.rule refusal.place) }
 {
     let count = temporary_registers(straight);
-    let homes = word_homes(alloc, straight, FIRST_TEMPORARY + count)?;
+    let found = word_homes(alloc, straight, FIRST_TEMPORARY + count)?;
     let unread = unread_controls(alloc, straight)?;
-    let allocation = Allocation::new(count, homes.as_slice()).with_immediates(unread.as_slice());
+    let allocation = Allocation::new(count, found.homes.as_slice()).with_immediates(
+        unread.as_slice(),
+        found.mirrors.as_slice(),
+    );
     generate_with(alloc, straight, allocation)
 }
 
@@ -294,6 +322,6 @@ pub fn optimised_variables(
     ensures { IfOk result (λ laid. laid.items ≡ optimised_variables straight.now) }
 {
     let count = temporary_registers(straight);
-    let homes = word_homes(alloc, straight, FIRST_TEMPORARY + count)?;
-    laid_out(alloc, straight, homes.as_slice())
+    let found = word_homes(alloc, straight, FIRST_TEMPORARY + count)?;
+    laid_out(alloc, straight, found.homes.as_slice())
 }

@@ -18,6 +18,7 @@ pub mod image_fields;
 mod jumping;
 mod loops;
 mod masking;
+mod mirror_uses;
 pub mod program_logic;
 mod reading;
 mod statements;

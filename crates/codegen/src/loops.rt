@@ -30,10 +30,11 @@ pub struct Loop<'a> {
     pub is_set: bool,
 }
 
-/// A loop that counts in a home, and the code of its body.
+/// A loop that counts in a home, the code by which the home's mirror follows it, and the code of its body.
 #[derive(Drop)]
 struct Counting<'a> {
     home: Reg,
+    mirror: &'a [Instr],
     body: &'a [Instr],
 }
 
@@ -113,16 +114,20 @@ fn iterations(
 ) -> Result<(), AllocError>
     requires test { length test.now ≤ 4 }
     requires body { length counting.now.body.now < 1000 }
+    requires mirror { length counting.now.mirror.now ≤ 2 }
     ensures { OnOk result (code.new.items ≡ code.old.items
-        ++ iterations_code counting.now.home test.now counting.now.body.now) }
+        ++ iterations_code counting.now.home counting.now.mirror.now test.now counting.now.body.now) }
 {
     let home = counting.home;
     let mut round = Vec::new(alloc);
     round.extend_from_slice(counting.body)?;
     add(&mut round, home, 1)?;
+    round.extend_from_slice(counting.mirror)?;
     round.extend_from_slice(test)?;
     jumping::again(code, Reg::X5, round.as_slice())?;
-    add(code, home, MINUS_ONE)
+    add(code, home, MINUS_ONE)?;
+    code.extend_from_slice(counting.mirror)?;
+    Ok(())
 }
 
 /// The same from the number in a register on, where another is not 0.
@@ -136,11 +141,13 @@ fn guarded(
 ) -> Result<(), AllocError>
     requires test { length test.now ≤ 4 }
     requires body { length counting.now.body.now < 1000 }
+    requires mirror { length counting.now.mirror.now ≤ 2 }
     ensures { OnOk result (code.new.items ≡ code.old.items
-        ++ guarded_code below counting.now.home start test.now counting.now.body.now) }
+        ++ guarded_code below counting.now.home counting.now.mirror.now start test.now counting.now.body.now) }
 {
     let mut arm = Vec::new(alloc);
     move_register(&mut arm, counting.home, start)?;
+    arm.extend_from_slice(counting.mirror)?;
     iterations(alloc, &mut arm, test, counting)?;
     jumping::branch(code, below, arm.as_slice(), &[])
 }
@@ -157,14 +164,17 @@ fn to_number(
     requires low { IsPlaced layout.now 0 (term_tree low.now) }
     requires bound { bound < 2048 }
     requires body { length counting.now.body.now < 1000 }
+    requires mirror { length counting.now.mirror.now ≤ 2 }
     ensures { OnOk result (code.new.items ≡ code.old.items
-        ++ to_number_code layout.now counting.now.home (term_tree low.now) bound counting.now.body.now) }
+        ++ to_number_code layout.now counting.now.home counting.now.mirror.now (term_tree low.now) bound
+        counting.now.body.now) }
 {
     let home = counting.home;
     let mut test = Vec::new(alloc);
     below_number(&mut test, Reg::X5, home, bound)?;
     if is_below(bound, low) {
         into(layout, code, home, 0, low)?;
+        code.extend_from_slice(counting.mirror)?;
         return iterations(alloc, code, test.as_slice(), counting);
     }
     let start = read(code, layout, Reg::X5, 0, low)?;
@@ -202,14 +212,20 @@ fn test(code: &mut Vec<Instr>, next: u32) -> Result<(), AllocError>
     Ok(())
 }
 
-/// The next number into the counter, and one more for the iteration after this one.
-fn count(code: &mut Vec<Instr>, next: u32, counter: &Location) -> Result<(), AllocError>
-    ensures { OnOk result (code.new.items ≡ code.old.items ++ count_code next counter.now) }
+/// The next number into the counter, which its mirror follows, and one more for the iteration after this one.
+fn count(
+    code: &mut Vec<Instr>,
+    next: u32,
+    counter: &Location,
+    mirror: &[Instr],
+) -> Result<(), AllocError>
+    ensures { OnOk result (code.new.items ≡ code.old.items ++ count_code next counter.now mirror.now) }
 {
     match counter {
         Location::InRegister(home) => move_register(code, *home, Reg::X6)?,
         Location::InSlot(offset) => store(code, Reg::X6, *offset)?,
     }
+    code.extend_from_slice(mirror)?;
     add(code, Reg::X6, 1)?;
     store(code, Reg::X6, next)
 }
@@ -221,16 +237,18 @@ fn tested(
     code: &mut Vec<Instr>,
     next: u32,
     counter: &Location,
+    mirror: &[Instr],
     body: &[Instr],
 ) -> Result<(), Unemitted>
     requires next { next ≤ 65536 }
-    ensures code { OnOk result (code.new.items ≡ code.old.items ++ to_word_code next counter.now body.now None) }
-    ensures far { IfErr result (IsFar (length (to_word_code next counter.now body.now None))) }
+    ensures code { OnOk result (code.new.items ≡ code.old.items
+        ++ to_word_code next counter.now mirror.now body.now None) }
+    ensures far { IfErr result (IsFar (length (to_word_code next counter.now mirror.now body.now None))) }
 {
     let mut head = Vec::new(alloc);
     test(&mut head, next)?;
     let mut iteration = Vec::new(alloc);
-    count(&mut iteration, next, counter)?;
+    count(&mut iteration, next, counter, mirror)?;
     iteration.extend_from_slice(body)?;
     jumping::reach(head.len(), iteration.len())?;
     Ok(jumping::repeat(code, head.as_slice(), iteration.as_slice())?)
@@ -246,8 +264,9 @@ fn to_word(
 ) -> Result<(), AllocError>
     requires next { next ≤ 65536 }
     requires body { length counting.now.body.now < 1000 }
+    requires mirror { length counting.now.mirror.now ≤ 2 }
     ensures { OnOk result (code.new.items ≡ code.old.items
-        ++ to_word_code next counter.now counting.now.body.now (Some counting.now.home)) }
+        ++ to_word_code next counter.now counting.now.mirror.now counting.now.body.now (Some counting.now.home)) }
 {
     test(code, next)?;
     let mut below = Vec::new(alloc);
@@ -278,11 +297,14 @@ pub fn repeat(
 {
     let next = layout.next(depth);
     let counter = layout.variable_location(repeat.counter);
+    let mut mirror = Vec::new(alloc);
+    layout.mirror(&mut mirror, repeat.counter)?;
+    let mirror = mirror.as_slice();
     let Some(home) = counting_home(&counter, repeat.is_set, body) else {
         bounds(code, layout, next, repeat.low, repeat.high)?;
-        return tested(alloc, code, next, &counter, body);
+        return tested(alloc, code, next, &counter, mirror, body);
     };
-    let counting = Counting { home, body };
+    let counting = Counting { home, mirror, body };
     match short_number(repeat.high) {
         Some(bound) => Ok(to_number(alloc, code, layout, repeat.low, bound, &counting)?),
         None => {

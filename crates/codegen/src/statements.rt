@@ -3,7 +3,8 @@
 ghost use Rattle.std.specs.Prelude.{◌≡◌, ◌++◌, ◌+◌, ◌*◌, ◌<◌, ◌≤◌, map, length, IfErr, OnOk};
 ghost use Rattle.codegen.specs.Below.{array_words, straight_block, straight_tree, term_tree};
 ghost use Rattle.branch_removal.specs.Straight as straight;
-ghost use Rattle.codegen.specs.private.Emitted.{branching_code, statement_code, block_code};
+ghost use Rattle.codegen.specs.private.Emitted.{branching_code, set_code, statement_code, block_code};
+ghost use Rattle.codegen.specs.expression_code.Layout.{variable_location};
 ghost use Rattle.codegen.specs.private.Jumps.{AreNear, IsFar};
 ghost use Rattle.codegen.specs.private.Placed.{IsPlaced, HasPlace, HavePlaces};
 
@@ -41,7 +42,8 @@ fn set(
 ) -> Result<(), AllocError>
     requires { HasPlace layout.now 0 (straight.set within variable (term_tree value.now)) }
     ensures { OnOk result (code.new.items ≡ code.old.items
-        ++ statement_code layout.now 0 (straight.set within variable (term_tree value.now))) }
+        ++ set_code layout.now within (variable_location layout.now.declared layout.now.allocation variable)
+        (term_tree value.now)) }
 {
     let variable = layout.variable_location(variable);
     let Some(control) = within else {
@@ -148,7 +150,8 @@ fn statement(
 {
     match statement {
         StraightStatement::Set(within, variable, value) => {
-            Ok(set(code, layout, *within, *variable, value)?)
+            set(code, layout, *within, *variable, value)?;
+            Ok(layout.mirror(code, *variable)?)
         }
         StraightStatement::Array(variable, size, values) => {
             Ok(array(alloc, code, layout, *variable, *size, values)?)

@@ -4,6 +4,9 @@ pub use Rattle.branch_removal.proofs.SeenLemmas.{seen-append}
 pub use Rattle.branch_removal.specs.StraightMeaning.{StraightState}
 pub use Rattle.codegen.specs.expression_code.Allocation.{Allocation, at_home, home_of, IsAllocation, register_of}
 pub use Rattle.codegen.specs.expression_code.Allocation.{slot_of, is_unread, slots_to, temporary, working_register}
+pub use Rattle.codegen.specs.expression_code.Allocation.{mirror_of}
+pub use Rattle.codegen.specs.declared.expression_code.allocation.Mirror.{Mirror}
+pub use Rattle.codegen.specs.declared.expression_code.emit.NearPlace.{NearPlace}
 pub use Rattle.codegen.specs.expression_code.Computed.{IsComputed, IsSiteOf, Site, word_in}
 pub use Rattle.codegen.specs.expression_code.Inside.{IsInside}
 pub use Rattle.codegen.specs.expression_code.Layout.{control_location, control_offset, next_offset, result_offset}
@@ -26,6 +29,8 @@ pub use Rattle.codegen.specs.expression_code.TermCode.{upper_part, choice_or_zer
 pub use Rattle.codegen.specs.expression_code.TermCode.{into_by, mask_code, number_step_code, of_bits, opposite_by}
 pub use Rattle.codegen.specs.expression_code.TermCode.{opposite_in, placed_code, sum_offset, reached_code}
 pub use Rattle.codegen.specs.expression_code.TermCode.{access_offset, added, computed_index, near_sum}
+pub use Rattle.codegen.specs.expression_code.TermCode.{in_frame, mirror_by, mirror_code, mirrored_at, mirrored_place}
+pub use Rattle.codegen.specs.expression_code.TermCode.{near_or, near_place}
 pub use Rattle.branch_removal.specs.Heights.{height_of}
 pub use Rattle.codegen.specs.declared.expression_code.locations.Location.{Location}
 pub use Rattle.codegen.specs.declared.expression_code.locations.Location.TheVariants.{InRegister, InSlot}

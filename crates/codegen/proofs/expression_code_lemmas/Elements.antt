@@ -1,7 +1,7 @@
 -- Elements of arrays: the address of one, from its index in a register, and its value in a register, at an index that
 -- is a number or in a register.
 use Rattle.std.proofs.Common.{◌≡◌, ◌≢◌, ℕ, ◌+◌, ◌*◌, ◌^◌, ◌<◌, Bool, true, false, cond, nat_lt, List, [], ◌∷◌, ◌++◌}
-use Rattle.std.proofs.Common.{refl, ap, ap₂, ◌∙◌, arith, ◌==◌, ne_eqb, ◌%◌, Some, slice_get, slice_index, sym}
+use Rattle.std.proofs.Common.{refl, ap, ap₂, ◌∙◌, arith, inl, inr, ◌==◌, ne_eqb, ◌%◌, Some, slice_get, slice_index, sym}
 use Rattle.rv_code.specs.declared.instructions.Instr.TheVariants as instr
 use Rattle.codegen.specs.Below.{Add, Boolean, Lui, Uint16}
 use Rattle.codegen.proofs.expression_code_lemmas.Below.{address_code, address_of, after_append, byte_count, cheaper}
@@ -10,10 +10,10 @@ use Rattle.codegen.proofs.expression_code_lemmas.Below.{lower_part, lt-ltb, nat_
 use Rattle.codegen.proofs.expression_code_lemmas.Below.{plain_append, registers_after, scale_code, sign_extended, State}
 use Rattle.codegen.proofs.expression_code_lemmas.Below.{StraightState, sum_of, upper_part, weaken, along, array_as}
 use Rattle.codegen.proofs.expression_code_lemmas.Below.{as_code, ByteMap, element, element_code, gives, indexed}
-use Rattle.codegen.proofs.expression_code_lemmas.Below.{kind_at, MarkKnown, near_code, near_element, number_at}
+use Rattle.codegen.proofs.expression_code_lemmas.Below.{kind_at, MarkKnown, near_code, NearPlace, number_at}
 use Rattle.codegen.proofs.expression_code_lemmas.Below.{number_or_zero, Path, Place, quiet, TermTree, value_in}
-use Rattle.codegen.proofs.expression_code_lemmas.Below.{variable_offset, WordType}
-use Rattle.codegen.proofs.expression_code_lemmas.Arithmetic.{upper_fits, lower_fits, near_address}
+use Rattle.codegen.proofs.expression_code_lemmas.Below.{WordType}
+use Rattle.codegen.proofs.expression_code_lemmas.Arithmetic.{upper_fits, lower_fits}
 use Rattle.codegen.proofs.expression_code_lemmas.OperatorCode.{either_of, dd, td, d0, d32, q0, q32, low_beside}
 use Rattle.codegen.proofs.expression_code_lemmas.OperatorCode.{kept_beside}
 use Rattle.codegen.proofs.expression_code_lemmas.TermLengths.{address_length}
@@ -21,9 +21,9 @@ use Rattle.codegen.proofs.expression_code_lemmas.Frame.{Setting, Runs, HeldAt, H
 use Rattle.codegen.proofs.expression_code_lemmas.WorkRegisters.{IsFree, ArePair, free_from, IsTarget, works_at}
 use Rattle.codegen.proofs.expression_code_lemmas.WorkRegisters.{target_works, spare_works, not_written}
 use Rattle.codegen.proofs.expression_code_lemmas.Moves.{register-at, computing_within, is_written, is_left, loading}
-use Rattle.codegen.proofs.expression_code_lemmas.Events.{by_known_index}
+use Rattle.codegen.proofs.expression_code_lemmas.Events.{by_index}
+use Rattle.codegen.proofs.expression_code_lemmas.Mirrors.{IsReached}
 use Rattle.codegen.proofs.expression_code_lemmas.Indices.{IsPart}
-use Rattle.codegen.proofs.expression_code_lemmas.NumberCode.{known, near_known}
 use Rattle.codegen.proofs.expression_code_lemmas.Operands.{RegisterOutcome}
 use Rattle.codegen.proofs.expression_code_lemmas.Places.{place_of, place_even, kind_known}
 use Rattle.codegen.proofs.expression_code_lemmas.Values.{array_lies, Leaves, Ready, ValuedIn, place_ends}
@@ -55,14 +55,14 @@ load_plain kind v = refl
 
 -- From an index in r, into d.
 module _ (z : Setting) (d r : ℕ) (target : IsFree d) (source : IsFree r) (apart : d ≢ 28) where
-  pair : ArePair d 28
+  pub pair : ArePair d 28
   pair = record { one = target; other = free_from 28 (omega arith) (omega arith); apart = apart }
 
   d2 : (2 == d) ≡ false
   d2 = ne_eqb 2 d (omega arith)
 
   -- an index times the bytes of an element, on the base
-  scaled : (kind : Kind) → (only_computes (either_of d 28) (scale_code d r kind) ≡ true)
+  pub scaled : (kind : Kind) → (only_computes (either_of d 28) (scale_code d r kind) ≡ true)
       × ((regs : ℕ → ℕ)
       → registers_after (scale_code d r kind) regs d ≡ sum_of (element_bytes kind * regs r) (regs 2))
   scaled Uint16 = (
@@ -197,35 +197,30 @@ module _ (slots : Slots) (place d : ℕ) (target : IsTarget slots.z.allocation.c
       ap (λ (b : ByteMap). number_at b (element_bytes word.kind) (z.frame + a)) done.same
       ∙ given.given.0.variables_there x array i known away below)))
 
-  -- so the element at an index that is known to be one whose access holds its offset
+  -- so the element at an index where its access reaches it at once
   pub near_runs : (source : Place) {x size : ℕ} {index : TermTree} {word : WordType} {mutable : Bool}
       → slice_get z.declared x ≡ Some (array_as word mutable size)
-      → (o : ℕ) → near_element z.laid z.allocation x index ≡ Some o
-      → Runs z 1 (steps_of (element source x size index)) (near_code d (kind_at z.laid x) o) (Ready z)
+      → (at : NearPlace) → IsReached z x size word mutable index at
+      → Runs z 1 (steps_of (element source x size index)) (near_code d (kind_at z.laid x) at) (Ready z)
       (ValuedIn z (element source x size index) free d place)
-  near_runs source {x = x} {size = size} {index = index} {word = word} {mutable = mutable} is o e =
+  near_runs source {x = x} {size = size} {index = index} {word = word} {mutable = mutable} is at reached =
       let array = array_as word mutable size in
-      let near = near_known z.laid z.allocation x index o e in
       let lies = array_lies z x size word mutable is in
       let kind = kind_known z.laid x array lies in
-      let at : place_of z.laid x array near.i ≡ o =
-      ap (λ k. variable_offset z.laid x + element_bytes k * near.i) (sym kind) ∙ near.at in
-      as_code (ap (λ k. near_code d k o) kind)
+      as_code (ap (λ k. near_code d k at) kind)
       (along (λ env. ap (λ (p : Path). p ++ indexed source size (value_in env.variables index) ∷ [])
-      (known index near.i near.is env.variables).1)
+      (reached.quiet env.variables))
       (made slots place (λ j. index) d (none_yet slots place (λ j. index))
-      (by_known_index z source size (λ env. value_in env.variables index) near.i
-      (λ env. (known index near.i near.is env.variables).0)
-      (λ below.
-      weaken
-      (λ env s fine ready. (
-        ready.held,
-        ap (λ b. sum_of b (sign_extended 12 o)) ready.held.base
-            ∙ (near_address z.frame o near.near (omega (arith, place_ends z x array near.i lies below))
-            ∙ ap (λ a. z.frame + a) (sym at)),
-        ready.variables_there x array near.i is (z.allocated.words x array size is refl) below,
-        (known index near.i near.is env.variables).0,
+      (by_index z source size (λ env. value_in env.variables index)
+      (λ i below.
+      weaken {P' = MarkKnown (setting z) ℕ (λ j. j < size) (Ready z) (λ env. value_in env.variables index) i}
+      (λ env s fine given. (
+        given.given.held,
+        reached.at i below env s given.given given.is,
+        given.given.variables_there x array i is (z.allocated.words x array size is refl) below,
+        given.is,
       ))
       (λ env s t fine given done. done)
-      (loaded source x size word mutable near.i index is below 2 o (omega arith) (omega arith))))
+      (loaded source x size word mutable i index is below at.base at.offset
+      (elim reached.base [ inl frame ↦ omega arith | inr home ↦ omega arith ]) (omega (arith, reached.near)))))
       (λ env s t ready done. still_ready slots place env s t ready done.held done.kept done.lower)))

@@ -3,7 +3,7 @@ use Rattle.std.proofs.Common.{◌≡◌, ℕ, ◌+◌, ◌-◌, ◌*◌, ◌%◌
 use Rattle.std.proofs.Common.{Some, slice_get, slice_index, refl, sym, ap, ap₂, ◌∙◌, arith, Bool, append-nil, false}
 use Rattle.std.proofs.Common.{inl, if◌then◌else◌, ◌==◌, IfSome, is_some, length-append, subst, ◌∷◌}
 use Rattle.codegen.proofs.expression_code_lemmas.Below.{along, at_home, array_as, as_code, binary, BinaryOperator}
-use Rattle.codegen.proofs.expression_code_lemmas.Below.{by_test, near_element, Profile, State, StraightState, cheaper}
+use Rattle.codegen.proofs.expression_code_lemmas.Below.{by_test, near_place, Profile, State, StraightState, cheaper}
 use Rattle.codegen.proofs.expression_code_lemmas.Below.{Boolean, choice_code, choice_or_zero_code, chooses_zero, Label}
 use Rattle.codegen.proofs.expression_code_lemmas.Below.{constant_code, copy_code, keeps_words, Kind, element_code}
 use Rattle.codegen.proofs.expression_code_lemmas.Below.{expr_code, fetch_code, gives, TermHasType, height_of, home_of}
@@ -50,6 +50,7 @@ use Rattle.codegen.specs.Below.{Uint32}
 use Rattle.codegen.proofs.expression_code_lemmas.Below.{code_by, element, indexed, near_code, reached_code}
 use Rattle.codegen.proofs.expression_code_lemmas.Below.{sum_offset, kind_at}
 use Rattle.codegen.proofs.expression_code_lemmas.Indices.{IsPart, sum_part, whole_part}
+use Rattle.codegen.proofs.expression_code_lemmas.Mirrors.{place_reached}
 use Rattle.codegen.proofs.expression_code_lemmas.NumberCode.{sum_known}
 
 module _ (z : Setting) (free : ℕ) (aligned : free % 4 ≡ 0) (above : base_of z ≤ free) where
@@ -424,15 +425,17 @@ module _ (z : Setting) (free : ℕ) (aligned : free % 4 ≡ 0) (above : base_of 
           done.fetched 0 (omega arith),
         )))))
 
-    -- and at any index, where the access may hold the element's offset
-    near_or : (source : Place) {x size : ℕ} {word : WordType} {mutable : Bool}
-        → slice_get z.declared x ≡ Some (array_as word mutable size) → (index : TermTree) {far : List Instr}
+    -- and at any index, where the access may reach the element at once
+    near_by : (source : Place) {x size : ℕ} {word type : WordType} {mutable : Bool}
+        → slice_get z.declared x ≡ Some (array_as word mutable size) → (index : TermTree) → Typed slots index type
+        → type.kind ≡ Uint32 → {far : List Instr}
         → Comes (element source x size index) (16 * (1 + term_nodes index) - 3) far
         → Comes (element source x size index) (16 * (1 + term_nodes index) - 3)
-        (code_by (near_element z.laid z.allocation x index) (near_code d (kind_at z.laid x)) far)
-    near_or source {x = x} is index far =
-        by_option (near_element z.laid z.allocation x index)
-        (λ o near. cheaper (omega (arith, height index)) (near_runs slots place d target source is o near))
+        (code_by (near_place z.laid z.allocation x index) (near_code d (kind_at z.laid x)) far)
+    near_by source {x = x} {size = size} {word = word} {mutable = mutable} is index has uint far =
+        by_option (near_place z.laid z.allocation x index)
+        (λ at near. cheaper (omega (arith, height index))
+        (near_runs slots place d target source is at (place_reached z x size word mutable is has uint at near)))
         (λ none. far)
 
   -- an expression whose value can come into any register comes into its place
@@ -519,7 +522,7 @@ module _ (z : Setting) (free : ℕ) (aligned : free % 4 ≡ 0) (above : base_of 
         (lies chooses (place + 1) (omega arith) (into_runs chooses (place + 1)))
         (lies more (place + 2) (omega arith) (into_runs more (place + 2)))
     into_runs (of_element {place = source} {x = x} {index = index} is has) place d target room =
-        near_or place d target source is index
+        near_by place d target source is index has refl
         (reached_runs has refl source is place d target room (lies has place room (into_runs has place)))
 
     -- the element at an index that is not near, whose value comes into its place

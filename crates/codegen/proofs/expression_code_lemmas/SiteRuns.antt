@@ -73,6 +73,7 @@ expressions_are_computed e word site has fit =
             homes_there = there.homes_there;
             variables_there = there.variables_there;
             controls_there = λ c below read. absurd (omega arith);
+            mirrors_there = there.mirrors_there;
           } in
           let run = ends_on (piece.runs (state_of m) s [] at fine ready) (sym (append-nil path)) in
           let same : run.seen ≡ (piece.leak path).0 = sym (ap (λ (r : List Observation × Path). r.0) run.shown) in

@@ -3,7 +3,7 @@
 use Rattle.std.proofs.Common.{◌≡◌, ℕ, ◌+◌, ◌*◌, ◌%◌, ◌<◌, ◌≤◌, ◌==◌, Bool, true, false, cond, nat_lt, List, length}
 use Rattle.std.proofs.Common.{Option, None, Some, ◌-◌, arith, length-append, unwrap_or}
 use Rattle.std.proofs.lemmas.Option.{slice_get_within}
-use Rattle.codegen.proofs.expression_code_lemmas.Below.{expr_code, address_code, around_code, binary}
+use Rattle.codegen.proofs.expression_code_lemmas.Below.{address_code, around_code, binary}
 use Rattle.codegen.proofs.expression_code_lemmas.Below.{BinaryOperator, bits, code_by, chooses_zero, constant_code}
 use Rattle.codegen.proofs.expression_code_lemmas.Below.{convert, convert_code, copy_code, element, fetch_code, Finish}
 use Rattle.codegen.proofs.expression_code_lemmas.Below.{finish_code, FlatVariable, TermHasType, height_of, InRegister}
@@ -11,7 +11,7 @@ use Rattle.codegen.proofs.expression_code_lemmas.Below.{InSlot, Instr, into_by, 
 use Rattle.codegen.proofs.expression_code_lemmas.Below.{keep_code}
 use Rattle.codegen.proofs.expression_code_lemmas.Below.{keeps_words, Kind, left_row, load_code, Location, mask_code}
 use Rattle.codegen.proofs.expression_code_lemmas.Below.{move_code, opposite_in, placed_code}
-use Rattle.codegen.proofs.expression_code_lemmas.Below.{narrow_code, narrowed_in, near_element, number_code, NumberRow}
+use Rattle.codegen.proofs.expression_code_lemmas.Below.{narrow_code, narrowed_in, near_place, number_code, NumberRow}
 use Rattle.codegen.proofs.expression_code_lemmas.Below.{NumberStep, number_step_code, of_binary, of_conversion}
 use Rattle.codegen.proofs.expression_code_lemmas.Below.{of_element, of_number, of_prefix, of_rotation, of_selection}
 use Rattle.codegen.proofs.expression_code_lemmas.Below.{of_truth, of_variable, operand, operator_code, prefix}
@@ -206,13 +206,13 @@ module _ (layout : TermLayout) where
       let index = binary sum operator width one two in
       let left = placed_length None place one (into_short None (own place) place one) in
       let whole = placed_length None place index (into_short None (own place) place (binary sum operator width one two)) in
-      code_length (near_element layout.declared layout.allocation x index) _ _ _ (λ o. omega arith)
+      code_length (near_place layout.declared layout.allocation x index) _ _ _ (λ o. omega arith)
       (code_length (sum_offset layout.declared layout.allocation x operator two) _ _ _
       (λ o. omega (arith, length-append {A = Instr}, left, fetch_length, address_length))
       (omega (arith, length-append {A = Instr}, whole, fetch_length, address_length)))
   into_short other d place (element source x size index) =
       let placed = placed_length None place index (into_short None (own place) place index) in
-      code_length (near_element layout.declared layout.allocation x index) _ _ _ (λ o. omega arith)
+      code_length (near_place layout.declared layout.allocation x index) _ _ _ (λ o. omega arith)
       (omega (arith, length-append {A = Instr}, placed, fetch_length, address_length))
   into_short other d place e = omega (arith, constant_length)
 

@@ -1,5 +1,5 @@
 -- What is shown of the state of straight code, and what the code of an expression leaves.
-use Rattle.std.proofs.Common.{◌≡◌, ◌≢◌, ℕ, ◌+◌, ◌-◌, ◌%◌, ◌^◌, ◌<◌, ◌≤◌, Bool, false, nat_lt, List, None, Some, inl}
+use Rattle.std.proofs.Common.{◌≡◌, ◌≢◌, ℕ, ◌+◌, ◌-◌, ◌*◌, ◌%◌, ◌^◌, ◌<◌, ◌≤◌, Bool, false, nat_lt, List, None, Some, inl}
 use Rattle.std.proofs.Common.{inr, length, slice_get, slice_index, refl, ap, ◌∙◌, arith, sym}
 use Rattle.codegen.proofs.expression_code_lemmas.Below.{ByteMap, control_location, control_offset, is_unread}
 use Rattle.codegen.proofs.expression_code_lemmas.Below.{array_as, FlatVariable, TermHasType, home_of, InRegister}
@@ -8,6 +8,7 @@ use Rattle.codegen.proofs.expression_code_lemmas.Below.{next_offset, number_at, 
 use Rattle.codegen.proofs.expression_code_lemmas.Below.{operand, Profile, result_offset, slot_of, State, StraightState}
 use Rattle.codegen.proofs.expression_code_lemmas.Below.{TermTree, types_of, value_in, Values, with_number}
 use Rattle.codegen.proofs.expression_code_lemmas.Below.{with_number_below, WordType}
+use Rattle.codegen.proofs.expression_code_lemmas.Below.{element_bytes, Mirror, mirror_of, sum_of}
 use Rattle.std.proofs.lemmas.Bool.{cond_both}
 use Rattle.codegen.specs.Below.{Uint32}
 use Rattle.codegen.proofs.expression_code_lemmas.Frame.{Setting, base_of, HeldAt, Held, layout_of, terms_at}
@@ -27,7 +28,7 @@ Holds z (InRegister r) t v = t.regs r ≡ v
 Holds z (InSlot o) t v = number_at t.bytes 4 (z.frame + o) ≡ Some v
 
 -- each variable has its values where the layout puts them or in its home, and so has each control value that is read
--- its mask
+-- its mask; each mirror follows its variable
 pub record Ready (z : Setting) (env : StraightState) (s : State) : Type 0 where
   pub held : Held z env s
   -- the values are within their kinds
@@ -39,6 +40,9 @@ pub record Ready (z : Setting) (env : StraightState) (s : State) : Type 0 where
       → number_at s.bytes (bytes_of d) (z.frame + place_of z.laid x d i) ≡ Some (slice_index (env.variables x) i)
   pub controls_there : (c : ℕ) → c < z.controls → is_unread z.allocation c ≡ false
       → Holds z (control_location (layout_of z) c) s (mask_of (env.controls c))
+  pub mirrors_there : (x home : ℕ) (mirror : Mirror) → mirror_of z.allocation x ≡ Some mirror
+      → home_of z.allocation.homes x ≡ Some home
+      → s.regs mirror.register ≡ sum_of (element_bytes mirror.kind * s.regs home) z.frame
 
 -- registers that do not work are as they were
 abbrev pub Leaves : (ℕ → Bool) → State → State → Type 0
@@ -139,6 +143,21 @@ pub variables_home : (z : Setting) (env : StraightState) (s t : State) → Ready
 variables_home z env s t ready homes x home d is at = homes home (z.allocated.allowed x home at)
     ∙ ready.homes_there x home d is at
 
+-- a mirror is a register that may be a home
+pub mirror_register : (z : Setting) (x : ℕ) (mirror : Mirror) → mirror_of z.allocation x ≡ Some mirror
+    → IsHome z.allocation.count mirror.register
+mirror_register z x mirror is = let m = z.allocated.mirrored x mirror is in (m.1, m.2)
+
+-- mirrors stay too
+pub mirrors_kept : (z : Setting) (env : StraightState) (s t : State) → Ready z env s → HomesKept z s t
+    → (x home : ℕ) (mirror : Mirror) → mirror_of z.allocation x ≡ Some mirror
+    → home_of z.allocation.homes x ≡ Some home
+    → t.regs mirror.register ≡ sum_of (element_bytes mirror.kind * t.regs home) z.frame
+mirrors_kept z env s t ready homes x home mirror is at =
+    homes mirror.register (mirror_register z x mirror is)
+    ∙ (ready.mirrors_there x home mirror is at
+    ∙ ap (λ v. sum_of (element_bytes mirror.kind * v) z.frame) (sym (homes home (z.allocated.allowed x home at))))
+
 -- where a control value is: in its home, or in its slot
 pub at_control : (z : Setting) (c : ℕ) (P : Location → Type 0)
     → ((home : ℕ) → home_of z.allocation.homes (length z.laid + c) ≡ Some home → P (InRegister home))
@@ -193,6 +212,7 @@ ready_below z free above env s t ready held kept homes = record {
   variables_there = variables_kept z free env s t (omega arith) ready kept;
   controls_there = λ c below read. controls_kept z env s t ready homes c below read
       (kept_number z free s t kept 4 (control_offset z.laid c) (omega arith));
+  mirrors_there = mirrors_kept z env s t ready homes;
 }
 
 pub ready_after : (z : Setting) (env : StraightState) (s t : State) → Ready z env s → Held z env t

@@ -23,14 +23,14 @@ abbrev declared : List FlatVariable
 declared = word_as uint32 false ∷ word_as uint32 false ∷ array_as uint32 false 4 ∷ []
 
 abbrev both_home : Allocation
-both_home = record { count = 8; homes = Some 13 ∷ Some 14 ∷ []; immediates = false; unread = [] }
+both_home = record { count = 8; homes = Some 13 ∷ Some 14 ∷ []; immediates = false; unread = []; mirrors = [] }
 
 abbrev one_home : Allocation
-one_home = record { count = 8; homes = None ∷ Some 14 ∷ []; immediates = false; unread = [] }
+one_home = record { count = 8; homes = None ∷ Some 14 ∷ []; immediates = false; unread = []; mirrors = [] }
 
 -- with homes, and with numbers in instructions
 abbrev with_numbers : Allocation
-with_numbers = record { count = 8; homes = Some 13 ∷ Some 14 ∷ []; immediates = true; unread = [] }
+with_numbers = record { count = 8; homes = Some 13 ∷ Some 14 ∷ []; immediates = true; unread = []; mirrors = [] }
 
 abbrev a : TermTree
 a = variable 0

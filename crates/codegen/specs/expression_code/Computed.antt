@@ -3,14 +3,15 @@
 -- lower places stay, and what is shown is decided by what the code's observer sees of the path.
 use Rattle.std.specs.Prelude.{◌≡◌, ℕ, ◌+◌, ◌*◌, ◌%◌, ◌^◌, ◌<◌, ◌≤◌, true, List, [], length, Option, None, Some, All}
 use Rattle.std.specs.Prelude.{is_some, slice_get, slice_index}
-use Rattle.codegen.specs.expression_code.Allocation.{IsAllocation, home_of, temporary, slots_to}
+use Rattle.codegen.specs.expression_code.Allocation.{IsAllocation, home_of, mirror_of, temporary, slots_to}
 use Rattle.codegen.specs.expression_code.Inside.{IsInside}
 use Rattle.codegen.specs.expression_code.Layout.{TermLayout, bytes_of, place_of, result_offset}
 use Rattle.codegen.specs.expression_code.Registers.{frame_register}
 use Rattle.codegen.specs.expression_code.TermCode.{expr_code, operand}
-use Rattle.codegen.specs.Below.{AreFine, MachineCode, Fits, FlatVariable, height_of, Instr, Leads, number_at}
-use Rattle.codegen.specs.Below.{numbers_in, Observation, Path, path_in, seen, State, term_nodes, TermTree, types_of}
-use Rattle.codegen.specs.Below.{value_in, Values}
+use Rattle.codegen.specs.declared.expression_code.allocation.Mirror.{Mirror}
+use Rattle.codegen.specs.Below.{AreFine, element_bytes, MachineCode, Fits, FlatVariable, height_of, Instr, Leads}
+use Rattle.codegen.specs.Below.{number_at, numbers_in, Observation, Path, path_in, seen, State, term_nodes, TermTree}
+use Rattle.codegen.specs.Below.{types_of, value_in, Values}
 use Rattle.codegen.specs.declared.expression_code.locations.Location.{Location}
 use Rattle.codegen.specs.declared.expression_code.locations.Location.TheVariants.{InRegister, InSlot}
 pub use Rattle.codegen.specs.program_logic.Placed.{Placed}
@@ -49,7 +50,7 @@ abbrev pub temporary_in : Site → State → ℕ → Option ℕ
 temporary_in site s place = word_in site s (temporary site.layout.allocation.count site.layout.free place)
 
 -- x2 has the frame's base, the frame's bytes are data, and the variables have these values, which are within their
--- kinds, in their homes or in the frame
+-- kinds, in their homes or in the frame, and each mirror follows its variable
 pub record Has (site : Site) (m : Values) (s : State) : Type 0 where
   pub base : s.regs frame_register ≡ site.frame
   pub data_there : (o : ℕ) → o < site.size → is_some (s.bytes (site.frame + o)) ≡ true
@@ -59,6 +60,9 @@ pub record Has (site : Site) (m : Values) (s : State) : Type 0 where
   pub variables_there : (x : ℕ) (d : FlatVariable) (i : ℕ) → slice_get site.layout.declared x ≡ Some d
       → home_of site.layout.allocation.homes x ≡ None → i < numbers_in d.elements
       → number_at s.bytes (bytes_of d) (site.frame + place_of site.layout.declared x d i) ≡ Some (slice_index (m x) i)
+  pub mirrors_there : (x home : ℕ) (mirror : Mirror) → mirror_of site.layout.allocation x ≡ Some mirror
+      → home_of site.layout.allocation.homes x ≡ Some home
+      → s.regs mirror.register ≡ (element_bytes mirror.kind * s.regs home + site.frame) % 2 ^ 32
 
 -- a run from a state to behind the code, which shows this list
 pub record RunsThrough (e : TermTree) (site : Site) (m : Values) (s : State) (list : List Observation) : Type 0 where

@@ -3,7 +3,9 @@ use Rattle.std.specs.Prelude.{ℕ, zero, suc, ◌+◌, ◌-◌, ◌*◌, ◌/◌
 use Rattle.std.specs.Prelude.{◌∷◌, ◌++◌, nat_lt, Option, None, Some, is_some, if◌then◌else◌, unwrap_or}
 use Rattle.codegen.specs.expression_code.Layout.{TermLayout, variable_offset, variable_location}
 use Rattle.codegen.specs.expression_code.Allocation.{register_of, Allocation, home_of, temporary, working_register}
-use Rattle.codegen.specs.expression_code.Allocation.{at_home}
+use Rattle.codegen.specs.expression_code.Allocation.{at_home, mirror_of}
+use Rattle.codegen.specs.declared.expression_code.allocation.Mirror.{Mirror}
+use Rattle.codegen.specs.declared.expression_code.emit.NearPlace.{NearPlace}
 use Rattle.codegen.specs.expression_code.NumberRows.{number_of, right_row, left_row, chooses_zero}
 use Rattle.codegen.specs.declared.expression_code.numbers.Finish.{Finish}
 use Rattle.codegen.specs.declared.expression_code.numbers.Finish.TheVariants.{Alone, GivesZero, GivesMore, Narrowed}
@@ -335,9 +337,46 @@ access_offset declared allocation x (binary source operator width left right) =
     unwrap_or (sum_offset declared allocation x operator right) (variable_offset declared x)
 access_offset declared allocation x index = variable_offset declared x
 
--- the element at an offset that is near
-abbrev pub near_code : ℕ → Kind → ℕ → List Instr
-near_code d kind offset = Load (load_by kind) d frame_register offset ∷ []
+-- A mirror of the part that is computed has all of an address but the offset that the access adds.
+
+-- what a mirror makes of an offset for an array of a kind, where that is the mirror's width and the access holds the
+-- offset
+abbrev pub mirrored_at : Kind → ℕ → Option Mirror → Option NearPlace
+mirrored_at kind offset None = None
+mirrored_at kind offset (Some mirror) =
+    if element_bytes mirror.kind == element_bytes kind && is_near offset
+    then Some (record { base = mirror.register; offset = offset }) else None
+
+-- of an index of which this part is computed
+abbrev pub mirrored_place : Allocation → Kind → ℕ → TermTree → Option NearPlace
+mirrored_place allocation kind offset (variable y) = mirrored_at kind offset (mirror_of allocation y)
+mirrored_place allocation kind offset part = None
+
+abbrev pub in_frame : ℕ → NearPlace
+in_frame offset = record { base = frame_register; offset = offset }
+
+-- the frame's base for an index that is known, and else a mirror
+abbrev pub near_or : Option ℕ → Option NearPlace → Option NearPlace
+near_or (Some offset) mirrored = Some (in_frame offset)
+near_or None mirrored = mirrored
+
+abbrev pub near_place : List FlatVariable → Allocation → ℕ → TermTree → Option NearPlace
+near_place declared allocation x index =
+    near_or (near_element declared allocation x index)
+    (mirrored_place allocation (kind_at declared x) (access_offset declared allocation x index)
+    (computed_index declared allocation x index))
+
+-- the element at such a place
+abbrev pub near_code : ℕ → Kind → NearPlace → List Instr
+near_code d kind place = Load (load_by kind) d place.base place.offset ∷ []
+
+-- what a mirror gets of the word that it follows: its value times the bytes of an element, on the frame's base
+abbrev pub mirror_by : Option ℕ → Option Mirror → List Instr
+mirror_by (Some home) (Some mirror) = scale_code mirror.register home mirror.kind
+mirror_by home mirror = []
+
+abbrev pub mirror_code : Allocation → ℕ → List Instr
+mirror_code allocation x = mirror_by (home_of allocation.homes x) (mirror_of allocation x)
 
 -- Expressions.
 
@@ -451,7 +490,7 @@ module _ (layout : TermLayout) where
         (operand_register place condition first_spare) (operand_register (place + 1) accepted second_spare)
         (operand_register (place + 2) otherwise third_spare)
     into_by other d place (element source x size index) =
-        code_by (near_element layout.declared layout.allocation x index) (near_code d (kind_at layout.declared x))
+        code_by (near_place layout.declared layout.allocation x index) (near_code d (kind_at layout.declared x))
         (reached_code d place x index (into_by None (own_register place) place index))
 
     -- the element at an index that is not near, whose own code this is; of a sum with a number that the access holds

@@ -20,8 +20,10 @@ use Rattle.codegen.specs.expression_code.Registers.{zero_register, frame_registe
 use Rattle.codegen.specs.expression_code.Registers.{third_register, address_register, first_spare}
 use Rattle.codegen.specs.expression_code.TermCode.{is_near, upper_part, lower_part, load_code, store_code}
 use Rattle.codegen.specs.expression_code.TermCode.{constant_code}
-use Rattle.codegen.specs.expression_code.TermCode.{address_code, load_by, kind_at, near_element, near_code, code_by}
-use Rattle.codegen.specs.expression_code.TermCode.{fetch_code, into_code, computed_index, access_offset}
+use Rattle.codegen.specs.expression_code.TermCode.{address_code, load_by, kind_at, near_place, near_code, code_by}
+use Rattle.codegen.specs.expression_code.TermCode.{fetch_code, in_frame, into_code, computed_index, access_offset}
+use Rattle.codegen.specs.expression_code.TermCode.{mirror_code}
+use Rattle.codegen.specs.declared.expression_code.emit.NearPlace.{NearPlace}
 use Rattle.codegen.specs.declared.expression_code.locations.Location.{Location}
 use Rattle.codegen.specs.declared.expression_code.locations.Location.TheVariants.{InRegister, InSlot}
 
@@ -101,11 +103,15 @@ store_by Uint8 = Sb
 store_by Uint16 = Sh
 store_by Uint32 = Sw
 
+-- a register into an element that is reached at once
+abbrev pub near_store_code : ℕ → Kind → NearPlace → List Instr
+near_store_code value kind place = Store (store_by kind) value place.base place.offset ∷ []
+
 -- a register into an element of a fixed place
 abbrev pub element_store_code : ℕ → Kind → ℕ → List Instr
 element_store_code value kind offset =
     if is_near offset
-    then Store (store_by kind) value frame_register offset ∷ []
+    then near_store_code value kind (in_frame offset)
     else Upper Lui address_register (upper_part offset)
     ∷ Register Add address_register address_register frame_register
     ∷ Store (store_by kind) value address_register (lower_part offset) ∷ []
@@ -151,11 +157,16 @@ put_code index value kind offset =
     address_code value_register index kind offset
     ++ Store (store_by kind) value value_register (lower_part offset) ∷ []
 
--- the value of an expression into the element of a kind at an index, of which the store may hold the offset
+-- or into one that is reached at once
+abbrev pub into_near_code : Frame → Kind → NearPlace → TermTree → List Instr
+into_near_code layout kind place e =
+    stored_code layout e ++ near_store_code (stored_register layout.allocation e) kind place
+
+-- the value of an expression into the element of a kind at an index, which the store may reach at once
 abbrev pub put_value_code : Frame → Kind → ℕ → TermTree → TermTree → List Instr
 put_value_code layout kind x index value =
-    code_by (near_element layout.declared layout.allocation x index)
-    (λ offset. into_element_code layout kind offset value)
+    code_by (near_place layout.declared layout.allocation x index)
+    (λ place. into_near_code layout kind place value)
     (let part = computed_index layout.declared layout.allocation x index in
     index_code layout part value
     ++ put_code (read_register layout.allocation value_register part)
@@ -171,14 +182,14 @@ put_under_code index value control kind offset =
     ++ merge_code second_register second_register value third_register (register_of control first_spare)
     ++ Store (store_by kind) second_register value_register (lower_part offset) ∷ []
 
--- the same of the value of an expression, into the element at an offset that its load and its store hold
-abbrev pub put_under_near_code : Frame → Location → Kind → ℕ → TermTree → List Instr
-put_under_near_code layout control kind offset value =
-    read_code layout value_register 0 value ++ near_code second_register kind offset
+-- the same of the value of an expression, into the element that its load and its store reach at once
+abbrev pub put_under_near_code : Frame → Location → Kind → NearPlace → TermTree → List Instr
+put_under_near_code layout control kind place value =
+    read_code layout value_register 0 value ++ near_code second_register kind place
     ++ fetch_code control third_register
     ++ merge_code value_register value_register (read_register layout.allocation value_register value) second_register
     (register_of control third_register)
-    ++ element_store_code value_register kind offset
+    ++ near_store_code value_register kind place
 
 -- what is put into the element at an index for an expression; within a control value where that is true, and else the
 -- old one
@@ -187,8 +198,8 @@ put_element_code layout None x index value =
     put_value_code layout (kind_at layout.declared x) x index
     (stored_value layout.allocation (kind_at layout.declared x) value)
 put_element_code layout (Some control) x index value =
-    code_by (near_element layout.declared layout.allocation x index)
-    (λ offset. put_under_near_code layout (control_location layout control) (kind_at layout.declared x) offset value)
+    code_by (near_place layout.declared layout.allocation x index)
+    (λ place. put_under_near_code layout (control_location layout control) (kind_at layout.declared x) place value)
     (let part = computed_index layout.declared layout.allocation x index in
     index_code layout part value
     ++ put_under_code (read_register layout.allocation value_register part)
@@ -208,7 +219,8 @@ module _ (layout : Frame) where
   abbrev mutual
     -- of a statement that so many loops are around
     pub statement_code : ℕ → StraightTree → List Instr
-    statement_code depth (set within x value) = set_code layout within (location x) value
+    statement_code depth (set within x value) =
+        set_code layout within (location x) value ++ mirror_code layout.allocation x
     statement_code depth (array x size values) = array_code layout x size values
     statement_code depth (put within place x size index value) = put_element_code layout within x index value
     statement_code depth (take control within condition) =

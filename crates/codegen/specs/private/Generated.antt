@@ -1,5 +1,6 @@
 -- The image that is generated for straight code.
-use Rattle.std.specs.Prelude.{ℕ, ◌+◌, ◌*◌, List, [], ◌∷◌, ◌++◌, Option, None, Some, length, map, nat_le, slice_get}
+use Rattle.std.specs.Prelude.{ℕ, ◌+◌, ◌*◌, List, [], ◌∷◌, ◌++◌, Option, None, Some, length, map, nat_le}
+use Rattle.std.specs.Prelude.{slice_get}
 use Rattle.std.specs.Prelude.{if◌then◌else◌}
 use Rattle.std.specs.Option.{option_map}
 use Rattle.codegen.specs.Below.{depth_in_all, Ecall, FlatVariable, Instr, program_height, StraightProgram, TermTree}
@@ -9,10 +10,11 @@ use Rattle.codegen.specs.declared.image_fields.slot.ResultSlot.{ResultSlot}
 use Rattle.codegen.specs.private.Emitted.{block_code, assign_code}
 use Rattle.codegen.specs.private.Fresh.{homes_but, starts_fresh}
 use Rattle.codegen.specs.private.Homes.{is_no_array}
-use Rattle.codegen.specs.expression_code.Allocation.{Allocation, slots_to}
+use Rattle.codegen.specs.expression_code.Allocation.{Allocation, home_of, slots_to}
+use Rattle.codegen.specs.declared.expression_code.allocation.Mirror.{Mirror}
 use Rattle.codegen.specs.expression_code.Layout.{Frame, slots_from, result_offset, slotted, temporaries_offset}
 use Rattle.codegen.specs.expression_code.Layout.{word_offset}
-use Rattle.codegen.specs.expression_code.TermCode.{constant_code, load_code}
+use Rattle.codegen.specs.expression_code.TermCode.{constant_code, load_code, mirror_by}
 
 -- the value into the result's slot, where there is one
 abbrev pub result_code : Frame → Option TermTree → List Instr
@@ -38,15 +40,26 @@ entry_code laid x [] = []
 entry_code laid x (None ∷ homes) = entry_code laid (x + 1) homes
 entry_code laid x (Some home ∷ homes) = first_code laid x home ++ entry_code laid (x + 1) homes
 
+-- what the mirror of the word x gets, and those behind it, where words have these homes
+abbrev pub mirrors_code : List (Option ℕ) → ℕ → List (Option Mirror) → List Instr
+mirrors_code homes x [] = []
+mirrors_code homes x (mirror ∷ mirrors) = mirror_by (home_of homes x) mirror ++ mirrors_code homes (x + 1) mirrors
+
+abbrev pub mirror_count : List (Option Mirror) → ℕ
+mirror_count [] = 0
+mirror_count (None ∷ mirrors) = mirror_count mirrors
+mirror_count (Some mirror ∷ mirrors) = 1 + mirror_count mirrors
+
 abbrev pub home_count : List (Option ℕ) → ℕ
 home_count [] = 0
 home_count (None ∷ homes) = home_count homes
 home_count (Some home ∷ homes) = 1 + home_count homes
 
--- the homes but those of words that start fresh, the statements and the result
+-- the homes and mirrors but those of words that start fresh, the statements and the result
 abbrev pub body_of : Allocation → StraightProgram → List Instr
 body_of a p =
-    entry_code (laid_out a p) 0 (homes_but (starts_fresh p) 0 a.homes)
+    (entry_code (laid_out a p) 0 (homes_but (starts_fresh p) 0 a.homes)
+    ++ mirrors_code (homes_but (starts_fresh p) 0 a.homes) 0 a.mirrors)
     ++ (block_code (frame_of a p) 0 p.body ++ result_code (frame_of a p) p.value)
 
 -- and the end

@@ -9,7 +9,7 @@ use Rattle.codegen.specs.private.Jumps.{again_code, branch_code, loop_code}
 use Rattle.codegen.specs.private.Words.{assign_code, put_word_code, read_code, read_register}
 use Rattle.codegen.specs.expression_code.Layout.{Frame, next_offset, term_layout, variable_location}
 use Rattle.codegen.specs.expression_code.Registers.{value_register, second_register}
-use Rattle.codegen.specs.expression_code.TermCode.{into_code, is_near, load_code, move_code, store_code}
+use Rattle.codegen.specs.expression_code.TermCode.{into_code, is_near, load_code, mirror_code, move_code, store_code}
 use Rattle.codegen.specs.declared.expression_code.locations.Location.{Location}
 use Rattle.codegen.specs.declared.expression_code.locations.Location.TheVariants.{InRegister, InSlot}
 
@@ -38,16 +38,17 @@ counting_home (InSlot offset) is_set body = None
 
 -- Loops that count in a home.
 
--- a body, one more in the home, and a test whether that is below the bound: as long as it is, the body again. In the
--- end the counter is at the last number.
-abbrev pub iterations_code : ℕ → List Instr → List Instr → List Instr
-iterations_code home test body =
-    again_code value_register (body ++ Immediate Addi home home 1 ∷ test) ++ Immediate Addi home home 4095 ∷ []
+-- a body, one more in the home, which its mirror follows, and a test whether that is below the bound: as long as it is,
+-- the body again. In the end the counter is at the last number.
+abbrev pub iterations_code : ℕ → List Instr → List Instr → List Instr → List Instr
+iterations_code home mirror test body =
+    again_code value_register (body ++ (Immediate Addi home home 1 ∷ (mirror ++ test)))
+    ++ Immediate Addi home home 4095 ∷ mirror
 
 -- the same from the number in a register on, where another is not 0
-abbrev pub guarded_code : ℕ → ℕ → ℕ → List Instr → List Instr → List Instr
-guarded_code below home start test body =
-    branch_code below (move_code home start ++ iterations_code home test body) []
+abbrev pub guarded_code : ℕ → ℕ → List Instr → ℕ → List Instr → List Instr → List Instr
+guarded_code below home mirror start test body =
+    branch_code below ((move_code home start ++ mirror) ++ iterations_code home mirror test body) []
 
 -- a bound that an instruction holds
 abbrev pub short_number : TermTree → Option ℕ
@@ -69,14 +70,14 @@ below_word_code home next =
     load_code value_register (next + 4) ++ Register Sltu value_register home value_register ∷ []
 
 -- up to a number
-abbrev pub to_number_code : Frame → ℕ → TermTree → ℕ → List Instr → List Instr
-to_number_code layout home low bound body =
+abbrev pub to_number_code : Frame → ℕ → List Instr → TermTree → ℕ → List Instr → List Instr
+to_number_code layout home mirror low bound body =
     if is_below bound low
-    then into_code (term_layout layout) home 0 low
-    ++ iterations_code home (below_number_code value_register home bound) body
+    then (into_code (term_layout layout) home 0 low ++ mirror)
+    ++ iterations_code home mirror (below_number_code value_register home bound) body
     else read_code layout value_register 0 low
     ++ (below_number_code second_register (read_register layout.allocation value_register low) bound
-    ++ guarded_code second_register home (read_register layout.allocation value_register low)
+    ++ guarded_code second_register home mirror (read_register layout.allocation value_register low)
     (below_number_code value_register home bound) body)
 
 -- Bounds in the frame.
@@ -92,30 +93,32 @@ test_code next =
     load_code second_register next ++ load_code value_register (next + 4)
     ++ Register Sltu value_register second_register value_register ∷ []
 
--- the next number into the counter, and one more for the iteration after this one
-abbrev pub count_code : ℕ → Location → List Instr
-count_code next counter =
-    put_word_code second_register counter ++ Immediate Addi second_register second_register 1 ∷ []
+-- the next number into the counter, which its mirror follows, and one more for the iteration after this one
+abbrev pub count_code : ℕ → Location → List Instr → List Instr
+count_code next counter mirror =
+    (put_word_code second_register counter ++ mirror) ++ Immediate Addi second_register second_register 1 ∷ []
     ++ store_code second_register next
 
 -- up to the bound in the frame, counted in a home or not
-abbrev pub to_word_code : ℕ → Location → List Instr → Option ℕ → List Instr
-to_word_code next counter body None = loop_code (test_code next) (count_code next counter ++ body)
-to_word_code next counter body (Some home) =
+abbrev pub to_word_code : ℕ → Location → List Instr → List Instr → Option ℕ → List Instr
+to_word_code next counter mirror body None = loop_code (test_code next) (count_code next counter mirror ++ body)
+to_word_code next counter mirror body (Some home) =
     test_code next
-    ++ guarded_code value_register home second_register (below_word_code home next) body
+    ++ guarded_code value_register home mirror second_register (below_word_code home next) body
 
 -- Loops.
 
-abbrev pub loop_from : Frame → ℕ → Location → TermTree → TermTree → List Instr → Option ℕ → Option ℕ → List Instr
-loop_from layout next counter low high body (Some home) (Some bound) =
-    to_number_code layout home low bound body
-loop_from layout next counter low high body home bound =
-    bounds_code layout next low high ++ to_word_code next counter body home
+abbrev pub loop_from : Frame → ℕ → Location → List Instr → TermTree → TermTree → List Instr → Option ℕ → Option ℕ
+    → List Instr
+loop_from layout next counter mirror low high body (Some home) (Some bound) =
+    to_number_code layout home mirror low bound body
+loop_from layout next counter mirror low high body home bound =
+    bounds_code layout next low high ++ to_word_code next counter mirror body home
 
 -- of a loop that so many others are around: its counter goes from one expression up to another, and its body, of which
 -- this is the code, sets the counter or does not
 abbrev pub repeat_code : Frame → ℕ → ℕ → TermTree → TermTree → Bool → List Instr → List Instr
 repeat_code layout depth x low high is_set body =
-    loop_from layout (next_offset layout depth) (variable_location layout.declared layout.allocation x) low high body
+    loop_from layout (next_offset layout depth) (variable_location layout.declared layout.allocation x)
+    (mirror_code layout.allocation x) low high body
     (counting_home (variable_location layout.declared layout.allocation x) is_set body) (short_number high)

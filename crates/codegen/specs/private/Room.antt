@@ -6,7 +6,7 @@ use Rattle.codegen.specs.Below.{declaration_of, declared_words, depth_in_all, Ha
 use Rattle.codegen.specs.Below.{most_declared_bytes, most_nodes, most_work, Param, program_height, StraightProgram}
 use Rattle.codegen.specs.Below.{value_nodes}
 pub use Rattle.codegen.specs.private.Generated.{frame_of}
-use Rattle.codegen.specs.private.Generated.{home_count}
+use Rattle.codegen.specs.private.Generated.{home_count, mirror_count}
 use Rattle.codegen.specs.private.Reads.{AllReadKept}
 use Rattle.codegen.specs.expression_code.Allocation.{Allocation, IsAllocation}
 use Rattle.inline.specs.Limits.{most_variable_bytes}
@@ -23,10 +23,10 @@ pub record HasRoom (p : StraightProgram) : Type 0 where
   -- the words that lie behind the variables and the result
   pub frame : p.controls + 2 * depth_in_all p.body + program_height p ≤ p.nodes
 
--- Homes that a program may have: of its variables and control values, and so few that an image has room for the code
--- that fills them. And what the program reads is kept.
+-- Homes and mirrors that a program may have: of its variables and control values, and so few that an image has room for
+-- the code that fills them. And what the program reads is kept.
 pub record IsFitting (p : StraightProgram) (a : Allocation) : Type 0 where
   pub allocated : IsAllocation p.declared a
   pub within : length a.homes ≤ length p.declared + p.controls
-  pub few : home_count a.homes ≤ 20
+  pub few : home_count a.homes + mirror_count a.mirrors ≤ 20
   pub read : AllReadKept a.unread p.body

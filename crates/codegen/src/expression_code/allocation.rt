@@ -1,22 +1,33 @@
 // How registers are given out: to temporaries, and to variables and control values as their homes.
 
 ghost use Rattle.std.specs.Prelude.{◌≡◌, ◌≤◌, ◌+◌, [], true, false};
-ghost use Rattle.codegen.specs.expression_code.Allocation.{home_of, is_unread};
+ghost use Rattle.codegen.specs.expression_code.Allocation.{home_of, is_unread, mirror_of};
 
+use language::Kind;
 use rv_code::Reg;
 use std::marker::Model;
 
 /// How many temporaries have registers where nothing has a home. Never more have one.
 pub const REGISTER_COUNT: u32 = 16;
 
+/// A register that follows a variable: it has the frame's base, and on it the variable's value times the bytes of an
+/// element of a kind.
+#[derive(Clone, Copy)]
+pub struct Mirror {
+    pub register: Reg,
+    pub kind: Kind,
+}
+
 /// How many temporaries have registers, the home of each variable and each control value that has one, a register in
-/// which it lives for the whole run, whether numbers go into instructions, and which control values nothing reads.
+/// which it lives for the whole run, whether numbers go into instructions, which control values nothing reads, and the
+/// mirror of each variable that has one.
 #[derive(Drop)]
 pub struct Allocation<'f> {
     count: u32,
     homes: &'f [Option<Reg>],
     immediates: bool,
     unread: &'f [bool],
+    mirrors: &'f [Option<Mirror>],
 }
 
 impl<'f> Model for Allocation<'f> {
@@ -30,6 +41,7 @@ impl<'f> Model for Allocation<'f> {
       homes = a.homes.now;
       immediates = a.immediates;
       unread = a.unread.now;
+      mirrors = a.mirrors.now;
     } };
 
     ghost invariant = { λ a. a.count ≤ 16 };
@@ -40,23 +52,26 @@ impl<'f> Allocation<'f> {
     /// what comes behind the last has none. Each number gets a register.
     pub fn new(count: u32, homes: &'f [Option<Reg>]) -> Self
         requires { count ≤ 16 }
-        ensures { result ≡ record { count = count; homes = homes.now; immediates = false; unread = [] } }
+        ensures { result ≡ record { count = count; homes = homes.now; immediates = false; unread = []; mirrors = [] } }
     {
         Allocation {
             count,
             homes,
             immediates: false,
             unread: &[],
+            mirrors: &[],
         }
     }
 
-    /// The same registers, with numbers in the instructions that hold them, where nothing reads these control values.
-    pub fn with_immediates(self, unread: &'f [bool]) -> Self
+    /// The same registers, with numbers in the instructions that hold them, where nothing reads these control values,
+    /// and variables have these mirrors, by their numbers.
+    pub fn with_immediates(self, unread: &'f [bool], mirrors: &'f [Option<Mirror>]) -> Self
         ensures { result ≡ record {
           count = self.entry.count;
           homes = self.entry.homes;
           immediates = true;
           unread = unread.now;
+          mirrors = mirrors.now;
         } }
     {
         Allocation {
@@ -64,6 +79,7 @@ impl<'f> Allocation<'f> {
             homes: self.homes,
             immediates: true,
             unread,
+            mirrors,
         }
     }
 
@@ -101,6 +117,21 @@ impl<'f> Allocation<'f> {
         ensures { result ≡ home_of self.now.homes number }
     {
         self.homes.get(number as usize).copied().unwrap_or(None)
+    }
+
+    /// The mirrors of variables, by their numbers.
+    pub fn mirrors(&self) -> &[Option<Mirror>]
+        ensures { result.now ≡ self.now.mirrors }
+    {
+        self.mirrors
+    }
+
+    /// The mirror of a variable. One without a home has none.
+    pub fn mirror(&self, number: u32) -> Option<Mirror>
+        ensures { result ≡ mirror_of self.now number }
+    {
+        self.home(number)?;
+        self.mirrors.get(number as usize).copied().unwrap_or(None)
     }
 
     /// The home of a control value, where there are so many variables.

@@ -3,8 +3,9 @@
 ghost use Rattle.std.specs.Prelude.{◌≡◌, ◌++◌, ◌∷◌, ◌<◌, [], OnOk};
 ghost use Rattle.codegen.specs.expression_code.TermCode.{upper_part, lower_part, load_code, store_code, constant_code};
 ghost use Rattle.codegen.specs.expression_code.TermCode.{scale_code, raise_code, address_code, load_by, element_code};
-ghost use Rattle.codegen.specs.expression_code.TermCode.{near_code};
+ghost use Rattle.codegen.specs.expression_code.TermCode.{mirror_by, near_code};
 
+use crate::expression_code::allocation::Mirror;
 use language::Kind;
 use rv_code::{
     Immediate12, ImmediateOperation, Instr, LoadOperation, Reg, RegisterOperation, ShiftAmount,
@@ -88,6 +89,13 @@ pub fn store(code: &mut Vec<Instr>, register: Reg, offset: u32) -> Result<(), Al
     )
 }
 
+/// Where an access finds an element at once: a register, and the offset that it adds to that.
+#[derive(Clone, Copy)]
+pub struct NearPlace {
+    pub base: Reg,
+    pub offset: u32,
+}
+
 /// A number into a register.
 pub fn constant(code: &mut Vec<Instr>, register: Reg, n: u32) -> Result<(), AllocError>
     ensures { OnOk result (code.new.items ≡ code.old.items ++ constant_code register n) }
@@ -122,6 +130,20 @@ fn scale(code: &mut Vec<Instr>, d: Reg, r: Reg, kind: Kind) -> Result<(), AllocE
     };
     append(code, Instr::Shift(ShiftOperation::Slli, d, r, times))?;
     append(code, Instr::Register(RegisterOperation::Add, d, d, Reg::X2))
+}
+
+/// The mirror of a variable follows it, where it has a home and a mirror.
+pub fn mirror(
+    code: &mut Vec<Instr>,
+    home: Option<Reg>,
+    mirror: Option<Mirror>,
+) -> Result<(), AllocError>
+    ensures { OnOk result (code.new.items ≡ code.old.items ++ mirror_by home mirror) }
+{
+    match (home, mirror) {
+        (Some(home), Some(mirror)) => scale(code, mirror.register, home, mirror.kind),
+        _ => Ok(()),
+    }
 }
 
 /// The upper part of an offset added to a register, where it has one.
@@ -165,13 +187,13 @@ pub fn load_by(kind: Kind) -> LoadOperation
     }
 }
 
-/// The element at an offset that is near, into a register.
-pub fn near(code: &mut Vec<Instr>, d: Reg, kind: Kind, offset: u32) -> Result<(), AllocError>
-    requires { offset < 2048 }
-    ensures { OnOk result (code.new.items ≡ code.old.items ++ near_code d kind offset) }
+/// The element that an access reaches at once, into a register.
+pub fn near(code: &mut Vec<Instr>, d: Reg, kind: Kind, place: NearPlace) -> Result<(), AllocError>
+    requires { place.offset < 2048 }
+    ensures { OnOk result (code.new.items ≡ code.old.items ++ near_code d kind place) }
 {
-    let low = lower_part(offset);
-    append(code, Instr::Load(load_by(kind), d, Reg::X2, low))
+    let low = lower_part(place.offset);
+    append(code, Instr::Load(load_by(kind), d, place.base, low))
 }
 
 /// The element at the index in a register, of an array at an offset, into a register.

@@ -256,8 +256,8 @@ fn into_by(
             operators::choice(code, target, &registers)
         }
         Term::Element(_, array, _, index) => {
-            if let Some(offset) = layout.near_element(*array, index) {
-                return emit::near(code, target, layout.kind(*array), offset);
+            if let Some(place) = layout.near_place(*array, index) {
+                return emit::near(code, target, layout.kind(*array), place);
             }
             reached(layout, code, target, place, *array, index)
         }

@@ -1,7 +1,7 @@
 // Where a program's words lie in the frame.
 
 ghost use Rattle.std.specs.Prelude.{◌≡◌, ℕ, ◌≤◌, ◌<◌, ◌+◌, ◌*◌, length, map, slice_get, unwrap_or, if◌then◌else◌};
-ghost use Rattle.std.specs.Prelude.{IfOk};
+ghost use Rattle.std.specs.Prelude.{◌++◌, IfOk, IfSome, OnOk};
 ghost use Rattle.codegen.specs.expression_code.Layout.{variable_offset, variable_location, result_offset};
 ghost use Rattle.codegen.specs.expression_code.Layout.{control_offset, control_location, word_offset, next_offset};
 ghost use Rattle.codegen.specs.expression_code.Layout.{temporaries_offset, term_layout, offsets_from, slots_from};
@@ -10,18 +10,19 @@ ghost use Rattle.codegen.specs.expression_code.Allocation.{is_unread, slots_to, 
 ghost use Rattle.codegen.specs.expression_code.Registers.{value_register};
 ghost use Rattle.codegen.specs.expression_code.TermCode.{kind_at, near_offset, near_element, is_word, keeps_words};
 ghost use Rattle.codegen.specs.expression_code.TermCode.{sum_offset, computed_index, access_offset, IsAmong};
-ghost use Rattle.codegen.specs.expression_code.TermCode.{added, near_sum};
+ghost use Rattle.codegen.specs.expression_code.TermCode.{added, mirror_code, mirrored_at, mirrored_place, near_place};
+ghost use Rattle.codegen.specs.expression_code.TermCode.{near_sum};
 ghost use Rattle.codegen.specs.expression_code.TermCode.{home_of_term, is_at_home, operand};
 ghost use Rattle.codegen.specs.Below.{declaration_of, declared_words, height_of, term_tree, words_of};
 
-use crate::expression_code::allocation::Allocation;
-use crate::expression_code::emit::NEAR;
+use crate::expression_code::allocation::{Allocation, Mirror};
+use crate::expression_code::emit::{NEAR, NearPlace, mirror};
 use crate::expression_code::locations::Location;
 use crate::expression_code::numbers::number;
 use crate::image_fields::Slot;
 use inline::{FlatVariable, Term};
 use language::{BinaryOperator, Kind, Param};
-use rv_code::Reg;
+use rv_code::{Instr, Reg};
 use std::alloc::{AllocError, Global};
 use std::marker::Model;
 use word::{Width, negate};
@@ -176,6 +177,13 @@ impl<'f> Layout<'f> {
         self.next(self.depths)
     }
 
+    /// How registers are given out.
+    pub fn allocation(&self) -> &Allocation<'f>
+        ensures { result.now ≡ self.now.allocation }
+    {
+        &self.allocation
+    }
+
     /// The homes of the variables, by their numbers, and behind them those of the control values.
     pub fn homes(&self) -> &[Option<Reg>]
         ensures { result.now ≡ self.now.allocation.homes }
@@ -252,6 +260,43 @@ impl<'f> Layout<'f> {
             }
             _ => own,
         }
+    }
+
+    /// Where an access finds an array's element at an index at once: an offset on the frame's base, or one on a mirror
+    /// of the part of the index that is computed.
+    pub fn near_place(&self, array: u32, index: &Term) -> Option<NearPlace>
+        requires { array < length self.now.declared }
+        ensures place { result ≡ near_place self.now.declared self.now.allocation array (term_tree index.now) }
+        ensures near { IfSome result (λ place. place.offset < 2048) }
+    {
+        if let Some(offset) = self.near_element(array, index) {
+            return Some(NearPlace {
+                base: Reg::X2,
+                offset,
+            });
+        }
+        let offset = self.access_offset(array, index);
+        let part = self.computed_index(array, index);
+        self.mirrored_place(self.kind(array), offset, part)
+    }
+
+    /// The place on the mirror of an index, of an array of a kind at an offset.
+    fn mirrored_place(&self, kind: Kind, offset: u32, index: &Term) -> Option<NearPlace>
+        ensures place { result ≡ mirrored_place self.now.allocation kind offset (term_tree index.now) }
+        ensures near { IfSome result (λ place. place.offset < 2048) }
+    {
+        match index {
+            Term::Variable(number) => mirrored_at(kind, offset, self.allocation.mirror(*number)),
+            _ => None,
+        }
+    }
+
+    /// The mirror of a variable follows it, where it has one.
+    pub fn mirror(&self, code: &mut Vec<Instr>, number: u32) -> Result<(), AllocError>
+        ensures { OnOk result (code.new.items ≡ code.old.items ++ mirror_code self.now.allocation number) }
+    {
+        let home = self.allocation.home(number);
+        mirror(code, home, self.allocation.mirror(number))
     }
 
     /// Where a variable is: in its home, or in its slot.
@@ -376,6 +421,23 @@ fn near_offset(base: u32, kind: Kind, index: Option<u32>) -> Option<u32>
     let offset = u64::from(base) + u64::from(kind.element_bytes()) * u64::from(index?);
     if offset < u64::from(NEAR) {
         Some(offset as u32)
+    } else {
+        None
+    }
+}
+
+/// What a mirror makes of an offset for an array of a kind, where that is the mirror's width and the access holds the
+/// offset.
+fn mirrored_at(kind: Kind, offset: u32, mirror: Option<Mirror>) -> Option<NearPlace>
+    ensures place { result ≡ mirrored_at kind offset mirror }
+    ensures near { IfSome result (λ place. place.offset < 2048) }
+{
+    let mirror = mirror?;
+    if mirror.kind.element_bytes() == kind.element_bytes() && offset < NEAR {
+        Some(NearPlace {
+            base: mirror.register,
+            offset,
+        })
     } else {
         None
     }

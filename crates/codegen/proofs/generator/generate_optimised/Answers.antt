@@ -14,8 +14,10 @@ generate_with-requires c =
       c.new.ensures,
       c.as_slice-2.ensures.value,
       c.in_ok-unread.ensures,
+      c.as_slice-3.ensures.value,
+      c.in_ok-found.ensures.mirrors,
       c.as_slice.ensures.value,
-      c.in_ok-homes.ensures,
+      c.in_ok-found.ensures.homes,
       c.temporary_registers-count.ensures.count,
     ) in
     subst (IsFitting p) is (word_homes_fit p)
@@ -30,8 +32,10 @@ returns-clause-exact c =
       c.new.ensures,
       c.as_slice-2.ensures.value,
       c.in_ok-unread.ensures,
+      c.as_slice-3.ensures.value,
+      c.in_ok-found.ensures.mirrors,
       c.as_slice.ensures.value,
-      c.in_ok-homes.ensures,
+      c.in_ok-found.ensures.homes,
       c.temporary_registers-count.ensures.count,
     ) in
     subst (λ (a : Allocation). IfOk c.generate_with.result (λ made. made ≡ image_within a p)) is

@@ -9,7 +9,7 @@ unfolding optimised_variables
 returns c =
     let p = c.args.straight.now in
     let is : c.as_slice.result.now ≡ (word_homes p).homes =
-    rw (c.as_slice.ensures.value, c.in_ok-homes.ensures, c.temporary_registers-count.ensures.count) in
+    rw (c.as_slice.ensures.value, c.in_ok-found.ensures.homes, c.temporary_registers-count.ensures.count) in
     subst
     (λ (homes : List (Option ℕ)). IfOk c.laid_out.result
     (λ laid. laid.items ≡ slotted (length p.parameters) homes p.declared)) is c.laid_out.ensures

@@ -1,10 +1,10 @@
-use Rattle.std.proofs.Common.{◌≡◌, ℕ, length, None, Some, sym, ap, subst, ◌∙◌, arith, List, [], ◌∷◌, ◌++◌, append-nil}
+use Rattle.std.proofs.Common.{◌≡◌, length, None, Some, sym, ap, subst, ◌∙◌, arith, List, [], ◌∷◌, ◌++◌, append-nil}
 use Rattle.std.proofs.Common.{append_assoc, Option, refl}
-use Rattle.codegen.proofs.Machine.{Instr}
+use Rattle.codegen.proofs.Machine.{Allocation, Instr}
 use Rattle.codegen.specs.Below.{Ecall}
 use Rattle.codegen.specs.private.Emitted.{assign_code, block_code}
 use Rattle.codegen.specs.private.Fresh.{homes_but, starts_fresh}
-use Rattle.codegen.specs.private.Generated.{entry_code, result_code}
+use Rattle.codegen.specs.private.Generated.{entry_code, mirrors_code, result_code}
 use Rattle.codegen.proofs.generator.program_code.Goals.{in-Some+in_ok-assign, in_default}
 use Rattle.codegen.proofs.Language.{term_tree}
 use Rattle.codegen.proofs.Logic.{option_map}
@@ -69,13 +69,18 @@ returns-clause-code c =
     let p = c.args.straight.now in
     let l = c.args.layout.now in
     let before = c.statements.new.code.items in
-    let all : c.end.new.code.items ≡ (entry_code l.declared 0 (homes_but (starts_fresh p) 0 l.allocation.homes)
+    let entry = entry_code l.declared 0 (homes_but (starts_fresh p) 0 l.allocation.homes) in
+    let mirrors = λ (a : Allocation). mirrors_code (homes_but (starts_fresh p) 0 a.homes) 0 a.mirrors in
+    let entered : c.enter_mirrors.new.code.items ≡ entry ++ mirrors l.allocation =
+    c.in_ok-enter_mirrors.ensures
+    ∙ (ap (λ (a : Allocation). c.enter.new.code.items ++ mirrors a) c.allocation.ensures
+    ∙ ap (λ (code : List Instr). code ++ mirrors l.allocation)
+    (c.in_ok-enter.ensures ∙ ap (λ (code : List Instr). code ++ entry) c.new-code.ensures.items)) in
+    let all : c.end.new.code.items ≡ ((entry ++ mirrors l.allocation)
     ++ (block_code l 0 p.body ++ result_code l p.value)) ++ Ecall ∷ [] =
-    joined (entry_code l.declared 0 (homes_but (starts_fresh p) 0 l.allocation.homes)) (block_code l 0 p.body)
-    (result_code l p.value)
-    (c.in_ok-enter.ensures ∙ ap (λ (code : List Instr). code ++ entry_code l.declared 0
-    (homes_but (starts_fresh p) 0 l.allocation.homes)) c.new-code.ensures.items)
-    (c.in_ok-statements.ensures.code ∙ ap (λ b. c.enter.new.code.items ++ block_code l 0 b) c.body.ensures.body)
+    joined (entry ++ mirrors l.allocation) (block_code l 0 p.body) (result_code l p.value) entered
+    (c.in_ok-statements.ensures.code ∙ ap (λ b. c.enter_mirrors.new.code.items ++ block_code l 0 b)
+    c.body.ensures.body)
     (elim c.match-value.branch [
       | in-Some+in_ok-assign w ↦
           ap (λ code. code.items) w.code-is ∙ (w.in_ok-assign.ensures
@@ -88,5 +93,5 @@ returns-clause-code c =
           (none_there c.value.result w.in_default.not-Some)) ∙ c.value.ensures))
     ])
     c.in_ok-end.ensures in
-    all ∙ ap (λ (f : Frame). (entry_code f.declared 0 (homes_but (starts_fresh p) 0 l.allocation.homes)
-    ++ (block_code f 0 p.body ++ result_code f p.value)) ++ Ecall ∷ []) c.requires.frame
+    all ∙ ap (λ (f : Frame). ((entry_code f.declared 0 (homes_but (starts_fresh p) 0 l.allocation.homes)
+    ++ mirrors l.allocation) ++ (block_code f 0 p.body ++ result_code f p.value)) ++ Ecall ∷ []) c.requires.frame
