@@ -1,4 +1,4 @@
-# aes256_encrypt_2: made by factc 1.0.0 function; 915 words, 656 bytes of stack, profile 1
+# aes256_encrypt_2: made by factc 1.0.0 function; 912 words, 656 bytes of stack, profile 1
     .option push
     .option norvc
     .option norelax
@@ -112,6 +112,8 @@ aes256_encrypt_2:
     .word 0x00000713  # addi x14, x0, 0
     .word 0x00000813  # addi x16, x0, 0
     .word 0x00000893  # addi x17, x0, 0
+    .word 0x00289d93  # slli x27, x17, 2
+    .word 0x002d8db3  # add x27, x27, x2
     .word 0x555552b7  # lui x5, 0x55555
     .word 0x55528293  # addi x5, x5, 1365
     .word 0x22512a23  # sw x5, 564(x2)
@@ -123,8 +125,9 @@ aes256_encrypt_2:
     .word 0x22512e23  # sw x5, 572(x2)
     .word 0x0c0f0d37  # lui x26, 0x0c0f0
     .word 0x300d0d13  # addi x26, x26, 768
-    .word 0x33003db7  # lui x27, 0x33003
-    .word 0x300d8d93  # addi x27, x27, 768
+    .word 0x330032b7  # lui x5, 0x33003
+    .word 0x30028293  # addi x5, x5, 768
+    .word 0x24512023  # sw x5, 576(x2)
     .word 0x1e014283  # lbu x5, 480(x2)
     .word 0x1e114303  # lbu x6, 481(x2)
     .word 0x00831313  # slli x6, x6, 8
@@ -306,17 +309,17 @@ aes256_encrypt_2:
     .word 0x01c12303  # lw x6, 28(x2)
     .word 0x006cccb3  # xor x25, x25, x6
     .word 0x00100293  # addi x5, x0, 1
-    .word 0x24512223  # sw x5, 580(x2)
-    .word 0x00f00293  # addi x5, x0, 15
     .word 0x24512423  # sw x5, 584(x2)
-    .word 0x24412303  # lw x6, 580(x2)
-    .word 0x24812283  # lw x5, 584(x2)
+    .word 0x00f00293  # addi x5, x0, 15
+    .word 0x24512623  # sw x5, 588(x2)
+    .word 0x24812303  # lw x6, 584(x2)
+    .word 0x24c12283  # lw x5, 588(x2)
     .word 0x005332b3  # sltu x5, x6, x5
     .word 0x00029463  # bne x5, x0, 8
-    .word 0x6540006f  # jal x0, 1620
+    .word 0x63c0006f  # jal x0, 1596
     .word 0x20612023  # sw x6, 512(x2)
     .word 0x00130313  # addi x6, x6, 1
-    .word 0x24612223  # sw x6, 580(x2)
+    .word 0x24612423  # sw x6, 584(x2)
     .word 0x014b42b3  # xor x5, x22, x20
     .word 0x20512223  # sw x5, 516(x2)
     .word 0x013cc6b3  # xor x13, x25, x19
@@ -507,7 +510,8 @@ aes256_encrypt_2:
     .word 0x0062c7b3  # xor x15, x5, x6
     .word 0x0027d313  # srli x6, x15, 2
     .word 0x0067c2b3  # xor x5, x15, x6
-    .word 0x01b2f833  # and x16, x5, x27
+    .word 0x24012303  # lw x6, 576(x2)
+    .word 0x0062f833  # and x16, x5, x6
     .word 0x0107c2b3  # xor x5, x15, x16
     .word 0x00281313  # slli x6, x16, 2
     .word 0x0062c933  # xor x18, x5, x6
@@ -519,7 +523,8 @@ aes256_encrypt_2:
     .word 0x0062c7b3  # xor x15, x5, x6
     .word 0x0027d313  # srli x6, x15, 2
     .word 0x0067c2b3  # xor x5, x15, x6
-    .word 0x01b2f833  # and x16, x5, x27
+    .word 0x24012303  # lw x6, 576(x2)
+    .word 0x0062f833  # and x16, x5, x6
     .word 0x0107c2b3  # xor x5, x15, x16
     .word 0x00281313  # slli x6, x16, 2
     .word 0x0062c9b3  # xor x19, x5, x6
@@ -531,7 +536,8 @@ aes256_encrypt_2:
     .word 0x0062c7b3  # xor x15, x5, x6
     .word 0x0027d313  # srli x6, x15, 2
     .word 0x0067c2b3  # xor x5, x15, x6
-    .word 0x01b2f833  # and x16, x5, x27
+    .word 0x24012303  # lw x6, 576(x2)
+    .word 0x0062f833  # and x16, x5, x6
     .word 0x0107c2b3  # xor x5, x15, x16
     .word 0x00281313  # slli x6, x16, 2
     .word 0x0062ca33  # xor x20, x5, x6
@@ -543,7 +549,8 @@ aes256_encrypt_2:
     .word 0x0062c7b3  # xor x15, x5, x6
     .word 0x0027d313  # srli x6, x15, 2
     .word 0x0067c2b3  # xor x5, x15, x6
-    .word 0x01b2f833  # and x16, x5, x27
+    .word 0x24012303  # lw x6, 576(x2)
+    .word 0x0062f833  # and x16, x5, x6
     .word 0x0107c2b3  # xor x5, x15, x16
     .word 0x00281313  # slli x6, x16, 2
     .word 0x0062cab3  # xor x21, x5, x6
@@ -555,7 +562,8 @@ aes256_encrypt_2:
     .word 0x0062c7b3  # xor x15, x5, x6
     .word 0x0027d313  # srli x6, x15, 2
     .word 0x0067c2b3  # xor x5, x15, x6
-    .word 0x01b2f833  # and x16, x5, x27
+    .word 0x24012303  # lw x6, 576(x2)
+    .word 0x0062f833  # and x16, x5, x6
     .word 0x0107c2b3  # xor x5, x15, x16
     .word 0x00281313  # slli x6, x16, 2
     .word 0x0062cb33  # xor x22, x5, x6
@@ -567,7 +575,8 @@ aes256_encrypt_2:
     .word 0x0062c7b3  # xor x15, x5, x6
     .word 0x0027d313  # srli x6, x15, 2
     .word 0x0067c2b3  # xor x5, x15, x6
-    .word 0x01b2f833  # and x16, x5, x27
+    .word 0x24012303  # lw x6, 576(x2)
+    .word 0x0062f833  # and x16, x5, x6
     .word 0x0107c2b3  # xor x5, x15, x16
     .word 0x00281313  # slli x6, x16, 2
     .word 0x0062cbb3  # xor x23, x5, x6
@@ -579,7 +588,8 @@ aes256_encrypt_2:
     .word 0x0062c7b3  # xor x15, x5, x6
     .word 0x0027d313  # srli x6, x15, 2
     .word 0x0067c2b3  # xor x5, x15, x6
-    .word 0x01b2f833  # and x16, x5, x27
+    .word 0x24012303  # lw x6, 576(x2)
+    .word 0x0062f833  # and x16, x5, x6
     .word 0x0107c2b3  # xor x5, x15, x16
     .word 0x00281313  # slli x6, x16, 2
     .word 0x0062cc33  # xor x24, x5, x6
@@ -591,7 +601,8 @@ aes256_encrypt_2:
     .word 0x0062c7b3  # xor x15, x5, x6
     .word 0x0027d313  # srli x6, x15, 2
     .word 0x0067c2b3  # xor x5, x15, x6
-    .word 0x01b2f833  # and x16, x5, x27
+    .word 0x24012303  # lw x6, 576(x2)
+    .word 0x0062f833  # and x16, x5, x6
     .word 0x0107c2b3  # xor x5, x15, x16
     .word 0x00281313  # slli x6, x16, 2
     .word 0x0062ccb3  # xor x25, x5, x6
@@ -685,39 +696,25 @@ aes256_encrypt_2:
     .word 0x00a84cb3  # xor x25, x16, x10
     .word 0x20012283  # lw x5, 512(x2)
     .word 0x00329893  # slli x17, x5, 3
-    .word 0x00289313  # slli x6, x17, 2
-    .word 0x00230333  # add x6, x6, x2
-    .word 0x00032303  # lw x6, 0(x6)
+    .word 0x00289d93  # slli x27, x17, 2
+    .word 0x002d8db3  # add x27, x27, x2
+    .word 0x000da303  # lw x6, 0(x27)
     .word 0x00694933  # xor x18, x18, x6
-    .word 0x00289313  # slli x6, x17, 2
-    .word 0x00230333  # add x6, x6, x2
-    .word 0x00432303  # lw x6, 4(x6)
+    .word 0x004da303  # lw x6, 4(x27)
     .word 0x0069c9b3  # xor x19, x19, x6
-    .word 0x00289313  # slli x6, x17, 2
-    .word 0x00230333  # add x6, x6, x2
-    .word 0x00832303  # lw x6, 8(x6)
+    .word 0x008da303  # lw x6, 8(x27)
     .word 0x006a4a33  # xor x20, x20, x6
-    .word 0x00289313  # slli x6, x17, 2
-    .word 0x00230333  # add x6, x6, x2
-    .word 0x00c32303  # lw x6, 12(x6)
+    .word 0x00cda303  # lw x6, 12(x27)
     .word 0x006acab3  # xor x21, x21, x6
-    .word 0x00289313  # slli x6, x17, 2
-    .word 0x00230333  # add x6, x6, x2
-    .word 0x01032303  # lw x6, 16(x6)
+    .word 0x010da303  # lw x6, 16(x27)
     .word 0x006b4b33  # xor x22, x22, x6
-    .word 0x00289313  # slli x6, x17, 2
-    .word 0x00230333  # add x6, x6, x2
-    .word 0x01432303  # lw x6, 20(x6)
+    .word 0x014da303  # lw x6, 20(x27)
     .word 0x006bcbb3  # xor x23, x23, x6
-    .word 0x00289313  # slli x6, x17, 2
-    .word 0x00230333  # add x6, x6, x2
-    .word 0x01832303  # lw x6, 24(x6)
+    .word 0x018da303  # lw x6, 24(x27)
     .word 0x006c4c33  # xor x24, x24, x6
-    .word 0x00289313  # slli x6, x17, 2
-    .word 0x00230333  # add x6, x6, x2
-    .word 0x01c32303  # lw x6, 28(x6)
+    .word 0x01cda303  # lw x6, 28(x27)
     .word 0x006cccb3  # xor x25, x25, x6
-    .word 0x9a1ff06f  # jal x0, -1632
+    .word 0x9b9ff06f  # jal x0, -1608
     .word 0x00195293  # srli x5, x18, 1
     .word 0x0132c2b3  # xor x5, x5, x19
     .word 0x23412303  # lw x6, 564(x2)

@@ -1,4 +1,4 @@
-# base64_encode: made by factc 1.0.0 function; 454 words, 144 bytes of stack, profile 1
+# base64_encode: made by factc 1.0.0 function; 436 words, 160 bytes of stack, profile 1
     .option push
     .option norvc
     .option norelax
@@ -10,18 +10,20 @@
 base64_encode:
     .cfi_startproc
     # room above the frame
-    .word 0xff010113  # addi x2, x2, -16
-    .cfi_def_cfa_offset 16
+    .word 0xfe010113  # addi x2, x2, -32
+    .cfi_def_cfa_offset 32
     # the caller's registers
     .word 0x00912023  # sw x9, 0(x2)
-    .cfi_offset 9, -16
+    .cfi_offset 9, -32
+    .word 0x01212223  # sw x18, 4(x2)
+    .cfi_offset 18, -28
     # arguments that are needed behind the body
-    .word 0x00a12223  # sw x10, 4(x2)
-    .word 0x00b12423  # sw x11, 8(x2)
-    .word 0x00c12623  # sw x12, 12(x2)
+    .word 0x00a12a23  # sw x10, 20(x2)
+    .word 0x00b12c23  # sw x11, 24(x2)
+    .word 0x00c12e23  # sw x12, 28(x2)
     # the frame's base
     .word 0xf8010113  # addi x2, x2, -128
-    .cfi_def_cfa 2, 144
+    .cfi_def_cfa 2, 160
     # parameter 0: an array
     .word 0x00050293  # addi x5, x10, 0
     .word 0x00010313  # addi x6, x2, 0
@@ -116,24 +118,25 @@ base64_encode:
     .word 0x00000713  # addi x14, x0, 0
     .word 0x00000793  # addi x15, x0, 0
     .word 0x00000813  # addi x16, x0, 0
+    .word 0x002588b3  # add x17, x11, x2
+    .word 0x00260933  # add x18, x12, x2
     .word 0x00000513  # addi x10, x0, 0
     .word 0x00600293  # addi x5, x0, 6
     .word 0x02a285b3  # mul x11, x5, x10
+    .word 0x002588b3  # add x17, x11, x2
     .word 0x00351613  # slli x12, x10, 3
-    .word 0x1e95f063  # bgeu x11, x9, 480
-    .word 0x002582b3  # add x5, x11, x2
-    .word 0x0002c283  # lbu x5, 0(x5)
+    .word 0x00260933  # add x18, x12, x2
+    .word 0x1c95f263  # bgeu x11, x9, 452
+    .word 0x0008c283  # lbu x5, 0(x17)
     .word 0x01029693  # slli x13, x5, 16
     .word 0x00158293  # addi x5, x11, 1
-    .word 0x0092fa63  # bgeu x5, x9, 20
-    .word 0x00258333  # add x6, x11, x2
-    .word 0x00134303  # lbu x6, 1(x6)
+    .word 0x0092f863  # bgeu x5, x9, 16
+    .word 0x0018c303  # lbu x6, 1(x17)
     .word 0x00831313  # slli x6, x6, 8
     .word 0x0066e6b3  # or x13, x13, x6
     .word 0x00258293  # addi x5, x11, 2
-    .word 0x0092f863  # bgeu x5, x9, 16
-    .word 0x00258333  # add x6, x11, x2
-    .word 0x00234303  # lbu x6, 2(x6)
+    .word 0x0092f663  # bgeu x5, x9, 12
+    .word 0x0028c303  # lbu x6, 2(x17)
     .word 0x0066e6b3  # or x13, x13, x6
     .word 0x0126d713  # srli x14, x13, 18
     .word 0x04170793  # addi x15, x14, 65
@@ -180,10 +183,8 @@ base64_encode:
     .word 0xfff30313  # addi x6, x6, -1
     .word 0x0063f333  # and x6, x7, x6
     .word 0x006787b3  # add x15, x15, x6
-    .word 0x002602b3  # add x5, x12, x2
-    .word 0x03028a23  # sb x16, 52(x5)
-    .word 0x002602b3  # add x5, x12, x2
-    .word 0x02f28aa3  # sb x15, 53(x5)
+    .word 0x03090a23  # sb x16, 52(x18)
+    .word 0x02f90aa3  # sb x15, 53(x18)
     .word 0x0066d293  # srli x5, x13, 6
     .word 0x03f2f713  # andi x14, x5, 63
     .word 0x04170793  # addi x15, x14, 65
@@ -210,8 +211,7 @@ base64_encode:
     .word 0x00258313  # addi x6, x11, 2
     .word 0x0064f463  # bgeu x9, x6, 8
     .word 0x03d00793  # addi x15, x0, 61
-    .word 0x002602b3  # add x5, x12, x2
-    .word 0x02f28b23  # sb x15, 54(x5)
+    .word 0x02f90b23  # sb x15, 54(x18)
     .word 0x03f6f793  # andi x15, x13, 63
     .word 0x04178693  # addi x13, x15, 65
     .word 0x01a7b313  # sltiu x6, x15, 26
@@ -237,40 +237,30 @@ base64_encode:
     .word 0x00358313  # addi x6, x11, 3
     .word 0x0064f463  # bgeu x9, x6, 8
     .word 0x03d00793  # addi x15, x0, 61
-    .word 0x002602b3  # add x5, x12, x2
-    .word 0x02f28ba3  # sb x15, 55(x5)
-    .word 0x0340006f  # jal x0, 52
-    .word 0x00000313  # addi x6, x0, 0
-    .word 0x002602b3  # add x5, x12, x2
-    .word 0x02628a23  # sb x6, 52(x5)
-    .word 0x00000313  # addi x6, x0, 0
-    .word 0x002602b3  # add x5, x12, x2
-    .word 0x02628aa3  # sb x6, 53(x5)
-    .word 0x00000313  # addi x6, x0, 0
-    .word 0x002602b3  # add x5, x12, x2
-    .word 0x02628b23  # sb x6, 54(x5)
-    .word 0x00000313  # addi x6, x0, 0
-    .word 0x002602b3  # add x5, x12, x2
-    .word 0x02628ba3  # sb x6, 55(x5)
+    .word 0x02f90ba3  # sb x15, 55(x18)
+    .word 0x0140006f  # jal x0, 20
+    .word 0x02090a23  # sb x0, 52(x18)
+    .word 0x02090aa3  # sb x0, 53(x18)
+    .word 0x02090b23  # sb x0, 54(x18)
+    .word 0x02090ba3  # sb x0, 55(x18)
     .word 0x00600293  # addi x5, x0, 6
     .word 0x02a282b3  # mul x5, x5, x10
     .word 0x00328593  # addi x11, x5, 3
+    .word 0x002588b3  # add x17, x11, x2
     .word 0x00351293  # slli x5, x10, 3
     .word 0x00428613  # addi x12, x5, 4
-    .word 0x1e95f063  # bgeu x11, x9, 480
-    .word 0x002582b3  # add x5, x11, x2
-    .word 0x0002c283  # lbu x5, 0(x5)
+    .word 0x00260933  # add x18, x12, x2
+    .word 0x1c95f263  # bgeu x11, x9, 452
+    .word 0x0008c283  # lbu x5, 0(x17)
     .word 0x01029693  # slli x13, x5, 16
     .word 0x00158293  # addi x5, x11, 1
-    .word 0x0092fa63  # bgeu x5, x9, 20
-    .word 0x00258333  # add x6, x11, x2
-    .word 0x00134303  # lbu x6, 1(x6)
+    .word 0x0092f863  # bgeu x5, x9, 16
+    .word 0x0018c303  # lbu x6, 1(x17)
     .word 0x00831313  # slli x6, x6, 8
     .word 0x0066e6b3  # or x13, x13, x6
     .word 0x00258293  # addi x5, x11, 2
-    .word 0x0092f863  # bgeu x5, x9, 16
-    .word 0x00258333  # add x6, x11, x2
-    .word 0x00234303  # lbu x6, 2(x6)
+    .word 0x0092f663  # bgeu x5, x9, 12
+    .word 0x0028c303  # lbu x6, 2(x17)
     .word 0x0066e6b3  # or x13, x13, x6
     .word 0x0126d713  # srli x14, x13, 18
     .word 0x04170793  # addi x15, x14, 65
@@ -317,10 +307,8 @@ base64_encode:
     .word 0xfff30313  # addi x6, x6, -1
     .word 0x0063f333  # and x6, x7, x6
     .word 0x006787b3  # add x15, x15, x6
-    .word 0x002602b3  # add x5, x12, x2
-    .word 0x03028a23  # sb x16, 52(x5)
-    .word 0x002602b3  # add x5, x12, x2
-    .word 0x02f28aa3  # sb x15, 53(x5)
+    .word 0x03090a23  # sb x16, 52(x18)
+    .word 0x02f90aa3  # sb x15, 53(x18)
     .word 0x0066d293  # srli x5, x13, 6
     .word 0x03f2f713  # andi x14, x5, 63
     .word 0x04170793  # addi x15, x14, 65
@@ -347,8 +335,7 @@ base64_encode:
     .word 0x00258313  # addi x6, x11, 2
     .word 0x0064f463  # bgeu x9, x6, 8
     .word 0x03d00793  # addi x15, x0, 61
-    .word 0x002602b3  # add x5, x12, x2
-    .word 0x02f28b23  # sb x15, 54(x5)
+    .word 0x02f90b23  # sb x15, 54(x18)
     .word 0x03f6f793  # andi x15, x13, 63
     .word 0x04178693  # addi x13, x15, 65
     .word 0x01a7b313  # sltiu x6, x15, 26
@@ -374,29 +361,20 @@ base64_encode:
     .word 0x00358313  # addi x6, x11, 3
     .word 0x0064f463  # bgeu x9, x6, 8
     .word 0x03d00793  # addi x15, x0, 61
-    .word 0x002602b3  # add x5, x12, x2
-    .word 0x02f28ba3  # sb x15, 55(x5)
-    .word 0x0340006f  # jal x0, 52
-    .word 0x00000313  # addi x6, x0, 0
-    .word 0x002602b3  # add x5, x12, x2
-    .word 0x02628a23  # sb x6, 52(x5)
-    .word 0x00000313  # addi x6, x0, 0
-    .word 0x002602b3  # add x5, x12, x2
-    .word 0x02628aa3  # sb x6, 53(x5)
-    .word 0x00000313  # addi x6, x0, 0
-    .word 0x002602b3  # add x5, x12, x2
-    .word 0x02628b23  # sb x6, 54(x5)
-    .word 0x00000313  # addi x6, x0, 0
-    .word 0x002602b3  # add x5, x12, x2
-    .word 0x02628ba3  # sb x6, 55(x5)
+    .word 0x02f90ba3  # sb x15, 55(x18)
+    .word 0x0140006f  # jal x0, 20
+    .word 0x02090a23  # sb x0, 52(x18)
+    .word 0x02090aa3  # sb x0, 53(x18)
+    .word 0x02090b23  # sb x0, 54(x18)
+    .word 0x02090ba3  # sb x0, 55(x18)
     .word 0x00150513  # addi x10, x10, 1
     .word 0x00853293  # sltiu x5, x10, 8
-    .word 0xba029ce3  # bne x5, x0, -1096
+    .word 0xc20290e3  # bne x5, x0, -992
     .word 0xfff50513  # addi x10, x10, -1
     # the result
     .word 0x00000513  # addi x10, x0, 0
     # parameter 2: the array, back
-    .word 0x08c12283  # lw x5, 140(x2)
+    .word 0x09c12283  # lw x5, 156(x2)
     .word 0x03410313  # addi x6, x2, 52
     .word 0x0032fe13  # andi x28, x5, 3
     .word 0x020e0e63  # beq x28, x0, 60
@@ -440,15 +418,21 @@ base64_encode:
     # the caller's registers
     .word 0x0002a483  # lw x9, 0(x5)
     .cfi_restore 9
+    .word 0x0042a903  # lw x18, 4(x5)
+    .cfi_restore 18
     # the caller's x2
-    .word 0x01028293  # addi x5, x5, 16
+    .word 0x02028293  # addi x5, x5, 32
     .cfi_def_cfa 5, 0
     # all the room, wiped upward
     .word 0x00012023  # sw x0, 0(x2)
     .word 0x00012223  # sw x0, 4(x2)
     .word 0x00012423  # sw x0, 8(x2)
     .word 0x00012623  # sw x0, 12(x2)
-    .word 0x01010113  # addi x2, x2, 16
+    .word 0x00012823  # sw x0, 16(x2)
+    .word 0x00012a23  # sw x0, 20(x2)
+    .word 0x00012c23  # sw x0, 24(x2)
+    .word 0x00012e23  # sw x0, 28(x2)
+    .word 0x02010113  # addi x2, x2, 32
     .word 0x00012023  # sw x0, 0(x2)
     .word 0x00012223  # sw x0, 4(x2)
     .word 0x00012423  # sw x0, 8(x2)

@@ -1,4 +1,4 @@
-# gf256_multiply: made by factc 1.0.0 function; 317 words, 96 bytes of stack, profile 1
+# gf256_multiply: made by factc 1.0.0 function; 307 words, 96 bytes of stack, profile 1
     .option push
     .option norvc
     .option norelax
@@ -112,6 +112,7 @@ gf256_multiply:
     .word 0x00000713  # addi x14, x0, 0
     .word 0x00000793  # addi x15, x0, 0
     .word 0x00000813  # addi x16, x0, 0
+    .word 0x002608b3  # add x17, x12, x2
     .word 0x01010437  # lui x8, 0x01010
     .word 0x10140413  # addi x8, x8, 257
     .word 0x1b1b24b7  # lui x9, 0x1b1b2
@@ -120,32 +121,25 @@ gf256_multiply:
     .word 0xefe50513  # addi x10, x10, -258
     .word 0x00000593  # addi x11, x0, 0
     .word 0x00259613  # slli x12, x11, 2
-    .word 0x002602b3  # add x5, x12, x2
-    .word 0x0002c283  # lbu x5, 0(x5)
-    .word 0x00260333  # add x6, x12, x2
-    .word 0x00134303  # lbu x6, 1(x6)
+    .word 0x002608b3  # add x17, x12, x2
+    .word 0x0008c283  # lbu x5, 0(x17)
+    .word 0x0018c303  # lbu x6, 1(x17)
     .word 0x00831313  # slli x6, x6, 8
     .word 0x0062e733  # or x14, x5, x6
-    .word 0x00260333  # add x6, x12, x2
-    .word 0x00234303  # lbu x6, 2(x6)
+    .word 0x0028c303  # lbu x6, 2(x17)
     .word 0x01031313  # slli x6, x6, 16
     .word 0x006762b3  # or x5, x14, x6
-    .word 0x00260333  # add x6, x12, x2
-    .word 0x00334303  # lbu x6, 3(x6)
+    .word 0x0038c303  # lbu x6, 3(x17)
     .word 0x01831313  # slli x6, x6, 24
     .word 0x0062e733  # or x14, x5, x6
-    .word 0x002602b3  # add x5, x12, x2
-    .word 0x0102c283  # lbu x5, 16(x5)
-    .word 0x00260333  # add x6, x12, x2
-    .word 0x01134303  # lbu x6, 17(x6)
+    .word 0x0108c283  # lbu x5, 16(x17)
+    .word 0x0118c303  # lbu x6, 17(x17)
     .word 0x00831313  # slli x6, x6, 8
     .word 0x0062e7b3  # or x15, x5, x6
-    .word 0x00260333  # add x6, x12, x2
-    .word 0x01234303  # lbu x6, 18(x6)
+    .word 0x0128c303  # lbu x6, 18(x17)
     .word 0x01031313  # slli x6, x6, 16
     .word 0x0067e2b3  # or x5, x15, x6
-    .word 0x00260333  # add x6, x12, x2
-    .word 0x01334303  # lbu x6, 19(x6)
+    .word 0x0138c303  # lbu x6, 19(x17)
     .word 0x01831313  # slli x6, x6, 24
     .word 0x0062e7b3  # or x15, x5, x6
     .word 0x0087f833  # and x16, x15, x8
@@ -250,20 +244,16 @@ gf256_multiply:
     .word 0x410282b3  # sub x5, x5, x16
     .word 0x00e2f2b3  # and x5, x5, x14
     .word 0x00d2c6b3  # xor x13, x5, x13
-    .word 0x002602b3  # add x5, x12, x2
-    .word 0x02d28023  # sb x13, 32(x5)
-    .word 0x0086d313  # srli x6, x13, 8
-    .word 0x002602b3  # add x5, x12, x2
-    .word 0x026280a3  # sb x6, 33(x5)
-    .word 0x0106d313  # srli x6, x13, 16
-    .word 0x002602b3  # add x5, x12, x2
-    .word 0x02628123  # sb x6, 34(x5)
-    .word 0x0186d313  # srli x6, x13, 24
-    .word 0x002602b3  # add x5, x12, x2
-    .word 0x026281a3  # sb x6, 35(x5)
+    .word 0x02d88023  # sb x13, 32(x17)
+    .word 0x0086d293  # srli x5, x13, 8
+    .word 0x025880a3  # sb x5, 33(x17)
+    .word 0x0106d293  # srli x5, x13, 16
+    .word 0x02588123  # sb x5, 34(x17)
+    .word 0x0186d293  # srli x5, x13, 24
+    .word 0x025881a3  # sb x5, 35(x17)
     .word 0x00158593  # addi x11, x11, 1
     .word 0x0045b293  # sltiu x5, x11, 4
-    .word 0xdc0290e3  # bne x5, x0, -576
+    .word 0xde0296e3  # bne x5, x0, -532
     .word 0xfff58593  # addi x11, x11, -1
     # the result
     .word 0x00000513  # addi x10, x0, 0

@@ -1,4 +1,4 @@
-# ghash_block: made by factc 1.0.0 function; 448 words, 96 bytes of stack, profile 1
+# ghash_block: made by factc 1.0.0 function; 452 words, 96 bytes of stack, profile 1
     .option push
     .option norvc
     .option norelax
@@ -21,6 +21,8 @@ ghash_block:
     .cfi_offset 18, -24
     .word 0x01312623  # sw x19, 12(x2)
     .cfi_offset 19, -20
+    .word 0x01412823  # sw x20, 16(x2)
+    .cfi_offset 20, -16
     # arguments that are needed behind the body
     .word 0x00a12a23  # sw x10, 20(x2)
     .word 0x00b12c23  # sw x11, 24(x2)
@@ -112,6 +114,7 @@ ghash_block:
     # the body
     .word 0x00000813  # addi x16, x0, 0
     .word 0x00000893  # addi x17, x0, 0
+    .word 0x00280a33  # add x20, x16, x2
     .word 0xe10009b7  # lui x19, 0xe1000
     .word 0x00098993  # addi x19, x19, 0
     .word 0x00014283  # lbu x5, 0(x2)
@@ -159,10 +162,9 @@ ghash_block:
     .word 0x00000713  # addi x14, x0, 0
     .word 0x00000793  # addi x15, x0, 0
     .word 0x00000813  # addi x16, x0, 0
-    .word 0x002802b3  # add x5, x16, x2
-    .word 0x0202c283  # lbu x5, 32(x5)
-    .word 0x00280333  # add x6, x16, x2
-    .word 0x01034303  # lbu x6, 16(x6)
+    .word 0x00280a33  # add x20, x16, x2
+    .word 0x020a4283  # lbu x5, 32(x20)
+    .word 0x010a4303  # lbu x6, 16(x20)
     .word 0x0062c2b3  # xor x5, x5, x6
     .word 0x01829893  # slli x17, x5, 24
     .word 0x01f8d293  # srli x5, x17, 31
@@ -365,9 +367,11 @@ ghash_block:
     .word 0x00145293  # srli x5, x8, 1
     .word 0x0122c433  # xor x8, x5, x18
     .word 0x00180813  # addi x16, x16, 1
+    .word 0x00280a33  # add x20, x16, x2
     .word 0x01083293  # sltiu x5, x16, 16
-    .word 0xcc0292e3  # bne x5, x0, -828
+    .word 0xcc0294e3  # bne x5, x0, -824
     .word 0xfff80813  # addi x16, x16, -1
+    .word 0x00280a33  # add x20, x16, x2
     .word 0x01865293  # srli x5, x12, 24
     .word 0x02510023  # sb x5, 32(x2)
     .word 0x0186d293  # srli x5, x13, 24
@@ -436,6 +440,8 @@ ghash_block:
     .cfi_restore 18
     .word 0x00c2a983  # lw x19, 12(x5)
     .cfi_restore 19
+    .word 0x0102aa03  # lw x20, 16(x5)
+    .cfi_restore 20
     # the caller's x2
     .word 0x02028293  # addi x5, x5, 32
     .cfi_def_cfa 5, 0

@@ -1,4 +1,4 @@
-# lookup_bytes_32: made by factc 1.0.0 function; 269 words, 576 bytes of stack, profile 1
+# lookup_bytes_32: made by factc 1.0.0 function; 271 words, 576 bytes of stack, profile 1
     .option push
     .option norvc
     .option norelax
@@ -69,9 +69,10 @@ lookup_bytes_32:
     .word 0x00012483  # lw x9, 0(x2)
     .word 0x00000513  # addi x10, x0, 0
     .word 0x00000593  # addi x11, x0, 0
+    .word 0x00250633  # add x12, x10, x2
     .word 0x00000513  # addi x10, x0, 0
-    .word 0x002502b3  # add x5, x10, x2
-    .word 0x0042c283  # lbu x5, 4(x5)
+    .word 0x00250633  # add x12, x10, x2
+    .word 0x00464283  # lbu x5, 4(x12)
     .word 0x0014b313  # sltiu x6, x9, 1
     .word 0x40600333  # sub x6, x0, x6
     .word 0x0ff37313  # andi x6, x6, 255
@@ -211,12 +212,13 @@ lookup_bytes_32:
     .word 0x0ff3f393  # andi x7, x7, 255
     .word 0x00737333  # and x6, x6, x7
     .word 0x0065e5b3  # or x11, x11, x6
-    .word 0x002502b3  # add x5, x10, x2
-    .word 0x20b28223  # sb x11, 516(x5)
+    .word 0x20b60223  # sb x11, 516(x12)
     .word 0x00150513  # addi x10, x10, 1
+    .word 0x00250633  # add x12, x10, x2
     .word 0x02053293  # sltiu x5, x10, 32
-    .word 0xda029ee3  # bne x5, x0, -580
+    .word 0xdc0290e3  # bne x5, x0, -576
     .word 0xfff50513  # addi x10, x10, -1
+    .word 0x00250633  # add x12, x10, x2
     # the result
     .word 0x00000513  # addi x10, x0, 0
     # parameter 2: the array, back

@@ -1,4 +1,4 @@
-# mlkem_multiply_ntts: made by factc 1.0.0 function; 471 words, 1840 bytes of stack, profile 1
+# mlkem_multiply_ntts: made by factc 1.0.0 function; 461 words, 1840 bytes of stack, profile 1
     .option push
     .option norvc
     .option norelax
@@ -17,6 +17,10 @@ mlkem_multiply_ntts:
     .cfi_offset 8, -32
     .word 0x00912223  # sw x9, 4(x2)
     .cfi_offset 9, -28
+    .word 0x01212423  # sw x18, 8(x2)
+    .cfi_offset 18, -24
+    .word 0x01312623  # sw x19, 12(x2)
+    .cfi_offset 19, -20
     # arguments that are needed behind the body
     .word 0x00a12a23  # sw x10, 20(x2)
     .word 0x00b12c23  # sw x11, 24(x2)
@@ -153,6 +157,10 @@ mlkem_multiply_ntts:
     .word 0x00000693  # addi x13, x0, 0
     .word 0x00000713  # addi x14, x0, 0
     .word 0x00000793  # addi x15, x0, 0
+    .word 0x00241913  # slli x18, x8, 2
+    .word 0x00290933  # add x18, x18, x2
+    .word 0x00149993  # slli x19, x9, 1
+    .word 0x002989b3  # add x19, x19, x2
     .word 0x9d7dc837  # lui x16, 0x9d7dc
     .word 0xb4180813  # addi x16, x16, -1215
     .word 0x000018b7  # lui x17, 0x00001
@@ -314,28 +322,22 @@ mlkem_multiply_ntts:
     .word 0x86a28293  # addi x5, x5, -1942
     .word 0x6e512e23  # sw x5, 1788(x2)
     .word 0x00000413  # addi x8, x0, 0
+    .word 0x00241913  # slli x18, x8, 2
+    .word 0x00290933  # add x18, x18, x2
     .word 0x00241493  # slli x9, x8, 2
-    .word 0x00149513  # slli x10, x9, 1
-    .word 0x00250533  # add x10, x10, x2
-    .word 0x00055503  # lhu x10, 0(x10)
-    .word 0x00149593  # slli x11, x9, 1
-    .word 0x002585b3  # add x11, x11, x2
-    .word 0x0025d583  # lhu x11, 2(x11)
-    .word 0x00149613  # slli x12, x9, 1
-    .word 0x00260633  # add x12, x12, x2
-    .word 0x20065603  # lhu x12, 512(x12)
-    .word 0x00149693  # slli x13, x9, 1
-    .word 0x002686b3  # add x13, x13, x2
-    .word 0x2026d683  # lhu x13, 514(x13)
+    .word 0x00149993  # slli x19, x9, 1
+    .word 0x002989b3  # add x19, x19, x2
+    .word 0x0009d503  # lhu x10, 0(x19)
+    .word 0x0029d583  # lhu x11, 2(x19)
+    .word 0x2009d603  # lhu x12, 512(x19)
+    .word 0x2029d683  # lhu x13, 514(x19)
     .word 0x02d58733  # mul x14, x11, x13
     .word 0x030737b3  # mulhu x15, x14, x16
     .word 0x00b7d313  # srli x6, x15, 11
     .word 0x03130333  # mul x6, x6, x17
     .word 0x40670733  # sub x14, x14, x6
     .word 0x02c502b3  # mul x5, x10, x12
-    .word 0x00241393  # slli x7, x8, 2
-    .word 0x002383b3  # add x7, x7, x2
-    .word 0x6003a383  # lw x7, 1536(x7)
+    .word 0x60092383  # lw x7, 1536(x18)
     .word 0x02770333  # mul x6, x14, x7
     .word 0x00628733  # add x14, x5, x6
     .word 0x030737b3  # mulhu x15, x14, x16
@@ -349,26 +351,16 @@ mlkem_multiply_ntts:
     .word 0x00b55313  # srli x6, x10, 11
     .word 0x03130333  # mul x6, x6, x17
     .word 0x40670733  # sub x14, x14, x6
-    .word 0x00149293  # slli x5, x9, 1
-    .word 0x002282b3  # add x5, x5, x2
-    .word 0x40f29023  # sh x15, 1024(x5)
-    .word 0x00149293  # slli x5, x9, 1
-    .word 0x002282b3  # add x5, x5, x2
-    .word 0x40e29123  # sh x14, 1026(x5)
+    .word 0x40f99023  # sh x15, 1024(x19)
+    .word 0x40e99123  # sh x14, 1026(x19)
     .word 0x00241293  # slli x5, x8, 2
     .word 0x00228493  # addi x9, x5, 2
-    .word 0x00149513  # slli x10, x9, 1
-    .word 0x00250533  # add x10, x10, x2
-    .word 0x00055503  # lhu x10, 0(x10)
-    .word 0x00149593  # slli x11, x9, 1
-    .word 0x002585b3  # add x11, x11, x2
-    .word 0x0025d583  # lhu x11, 2(x11)
-    .word 0x00149613  # slli x12, x9, 1
-    .word 0x00260633  # add x12, x12, x2
-    .word 0x20065603  # lhu x12, 512(x12)
-    .word 0x00149693  # slli x13, x9, 1
-    .word 0x002686b3  # add x13, x13, x2
-    .word 0x2026d683  # lhu x13, 514(x13)
+    .word 0x00149993  # slli x19, x9, 1
+    .word 0x002989b3  # add x19, x19, x2
+    .word 0x0009d503  # lhu x10, 0(x19)
+    .word 0x0029d583  # lhu x11, 2(x19)
+    .word 0x2009d603  # lhu x12, 512(x19)
+    .word 0x2029d683  # lhu x13, 514(x19)
     .word 0x02d58733  # mul x14, x11, x13
     .word 0x030737b3  # mulhu x15, x14, x16
     .word 0x00b7d313  # srli x6, x15, 11
@@ -376,9 +368,7 @@ mlkem_multiply_ntts:
     .word 0x40670733  # sub x14, x14, x6
     .word 0x40e88733  # sub x14, x17, x14
     .word 0x02c502b3  # mul x5, x10, x12
-    .word 0x00241393  # slli x7, x8, 2
-    .word 0x002383b3  # add x7, x7, x2
-    .word 0x6003a383  # lw x7, 1536(x7)
+    .word 0x60092383  # lw x7, 1536(x18)
     .word 0x02770333  # mul x6, x14, x7
     .word 0x00628733  # add x14, x5, x6
     .word 0x030737b3  # mulhu x15, x14, x16
@@ -392,16 +382,16 @@ mlkem_multiply_ntts:
     .word 0x00b55313  # srli x6, x10, 11
     .word 0x03130333  # mul x6, x6, x17
     .word 0x40670733  # sub x14, x14, x6
-    .word 0x00149293  # slli x5, x9, 1
-    .word 0x002282b3  # add x5, x5, x2
-    .word 0x40f29023  # sh x15, 1024(x5)
-    .word 0x00149293  # slli x5, x9, 1
-    .word 0x002282b3  # add x5, x5, x2
-    .word 0x40e29123  # sh x14, 1026(x5)
+    .word 0x40f99023  # sh x15, 1024(x19)
+    .word 0x40e99123  # sh x14, 1026(x19)
     .word 0x00140413  # addi x8, x8, 1
+    .word 0x00241913  # slli x18, x8, 2
+    .word 0x00290933  # add x18, x18, x2
     .word 0x04043293  # sltiu x5, x8, 64
-    .word 0xea0294e3  # bne x5, x0, -344
+    .word 0xf00290e3  # bne x5, x0, -256
     .word 0xfff40413  # addi x8, x8, -1
+    .word 0x00241913  # slli x18, x8, 2
+    .word 0x00290933  # add x18, x18, x2
     # the result
     .word 0x00000513  # addi x10, x0, 0
     # parameter 2: the array, back
@@ -451,6 +441,10 @@ mlkem_multiply_ntts:
     .cfi_restore 8
     .word 0x0042a483  # lw x9, 4(x5)
     .cfi_restore 9
+    .word 0x0082a903  # lw x18, 8(x5)
+    .cfi_restore 18
+    .word 0x00c2a983  # lw x19, 12(x5)
+    .cfi_restore 19
     # the caller's x2
     .word 0x02028293  # addi x5, x5, 32
     .cfi_def_cfa 5, 0

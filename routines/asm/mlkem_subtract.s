@@ -1,4 +1,4 @@
-# mlkem_subtract: made by factc 1.0.0 function; 192 words, 1056 bytes of stack, profile 1
+# mlkem_subtract: made by factc 1.0.0 function; 194 words, 1056 bytes of stack, profile 1
     .option push
     .option norvc
     .option norelax
@@ -106,26 +106,28 @@ mlkem_subtract:
     .word 0x00000493  # addi x9, x0, 0
     .word 0x00000513  # addi x10, x0, 0
     .word 0x00000593  # addi x11, x0, 0
+    .word 0x00149613  # slli x12, x9, 1
+    .word 0x00260633  # add x12, x12, x2
     .word 0x00001437  # lui x8, 0x00001
     .word 0xd0140413  # addi x8, x8, -767
     .word 0x00000493  # addi x9, x0, 0
-    .word 0x00149293  # slli x5, x9, 1
-    .word 0x002282b3  # add x5, x5, x2
-    .word 0x0002d283  # lhu x5, 0(x5)
-    .word 0x00149313  # slli x6, x9, 1
-    .word 0x00230333  # add x6, x6, x2
-    .word 0x20035303  # lhu x6, 512(x6)
+    .word 0x00149613  # slli x12, x9, 1
+    .word 0x00260633  # add x12, x12, x2
+    .word 0x00065283  # lhu x5, 0(x12)
+    .word 0x20065303  # lhu x6, 512(x12)
     .word 0x40628533  # sub x10, x5, x6
     .word 0x01055293  # srli x5, x10, 16
     .word 0x0082f5b3  # and x11, x5, x8
-    .word 0x00b50333  # add x6, x10, x11
-    .word 0x00149293  # slli x5, x9, 1
-    .word 0x002282b3  # add x5, x5, x2
-    .word 0x00629023  # sh x6, 0(x5)
+    .word 0x00b502b3  # add x5, x10, x11
+    .word 0x00561023  # sh x5, 0(x12)
     .word 0x00148493  # addi x9, x9, 1
+    .word 0x00149613  # slli x12, x9, 1
+    .word 0x00260633  # add x12, x12, x2
     .word 0x1004b293  # sltiu x5, x9, 256
-    .word 0xfc0292e3  # bne x5, x0, -60
+    .word 0xfc029ae3  # bne x5, x0, -44
     .word 0xfff48493  # addi x9, x9, -1
+    .word 0x00149613  # slli x12, x9, 1
+    .word 0x00260633  # add x12, x12, x2
     # the result
     .word 0x00000513  # addi x10, x0, 0
     # parameter 0: the array, back

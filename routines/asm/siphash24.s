@@ -1,4 +1,4 @@
-# siphash24: made by factc 1.0.0 function; 462 words, 176 bytes of stack, profile 1
+# siphash24: made by factc 1.0.0 function; 461 words, 176 bytes of stack, profile 1
     .option push
     .option norvc
     .option norelax
@@ -31,6 +31,8 @@ siphash24:
     .cfi_offset 23, -36
     .word 0x03812023  # sw x24, 32(x2)
     .cfi_offset 24, -32
+    .word 0x03912223  # sw x25, 36(x2)
+    .cfi_offset 25, -28
     # arguments that are needed behind the body
     .word 0x02a12823  # sw x10, 48(x2)
     .word 0x02b12a23  # sw x11, 52(x2)
@@ -135,6 +137,7 @@ siphash24:
     .word 0x00000a93  # addi x21, x0, 0
     .word 0x00000b93  # addi x23, x0, 0
     .word 0x00000c13  # addi x24, x0, 0
+    .word 0x002b8cb3  # add x25, x23, x2
     .word 0x00014283  # lbu x5, 0(x2)
     .word 0x00114303  # lbu x6, 1(x2)
     .word 0x00831313  # slli x6, x6, 8
@@ -216,83 +219,79 @@ siphash24:
     .word 0x06412283  # lw x5, 100(x2)
     .word 0x005332b3  # sltu x5, x6, x5
     .word 0x00029463  # bne x5, x0, 8
-    .word 0x2ac0006f  # jal x0, 684
+    .word 0x29c0006f  # jal x0, 668
     .word 0x00030a13  # addi x20, x6, 0
     .word 0x00000a93  # addi x21, x0, 0
     .word 0x00000b13  # addi x22, x0, 0
     .word 0x013a32b3  # sltu x5, x20, x19
     .word 0x008a3313  # sltiu x6, x20, 8
     .word 0x0062f2b3  # and x5, x5, x6
-    .word 0x12028863  # beq x5, x0, 304
+    .word 0x12028063  # beq x5, x0, 288
     .word 0x003a1b93  # slli x23, x20, 3
+    .word 0x002b8cb3  # add x25, x23, x2
     .word 0x012bb2b3  # sltu x5, x23, x18
     .word 0x03fbb313  # sltiu x6, x23, 63
     .word 0x0062f2b3  # and x5, x5, x6
-    .word 0x00028663  # beq x5, x0, 12
-    .word 0x002b8ab3  # add x21, x23, x2
-    .word 0x010aca83  # lbu x21, 16(x21)
+    .word 0x00028463  # beq x5, x0, 8
+    .word 0x010cca83  # lbu x21, 16(x25)
     .word 0x004b8293  # addi x5, x23, 4
     .word 0x0122b2b3  # sltu x5, x5, x18
     .word 0x03bbb313  # sltiu x6, x23, 59
     .word 0x0062f2b3  # and x5, x5, x6
-    .word 0x00028663  # beq x5, x0, 12
-    .word 0x002b8b33  # add x22, x23, x2
-    .word 0x014b4b03  # lbu x22, 20(x22)
+    .word 0x00028463  # beq x5, x0, 8
+    .word 0x014ccb03  # lbu x22, 20(x25)
     .word 0x003a1293  # slli x5, x20, 3
     .word 0x00128b93  # addi x23, x5, 1
+    .word 0x002b8cb3  # add x25, x23, x2
     .word 0x012bb2b3  # sltu x5, x23, x18
     .word 0x03fbb313  # sltiu x6, x23, 63
     .word 0x0062f2b3  # and x5, x5, x6
-    .word 0x00028a63  # beq x5, x0, 20
-    .word 0x002b8333  # add x6, x23, x2
-    .word 0x01034303  # lbu x6, 16(x6)
+    .word 0x00028863  # beq x5, x0, 16
+    .word 0x010cc303  # lbu x6, 16(x25)
     .word 0x00831313  # slli x6, x6, 8
     .word 0x006aeab3  # or x21, x21, x6
     .word 0x004b8293  # addi x5, x23, 4
     .word 0x0122b2b3  # sltu x5, x5, x18
     .word 0x03bbb313  # sltiu x6, x23, 59
     .word 0x0062f2b3  # and x5, x5, x6
-    .word 0x00028a63  # beq x5, x0, 20
-    .word 0x002b8333  # add x6, x23, x2
-    .word 0x01434303  # lbu x6, 20(x6)
+    .word 0x00028863  # beq x5, x0, 16
+    .word 0x014cc303  # lbu x6, 20(x25)
     .word 0x00831313  # slli x6, x6, 8
     .word 0x006b6b33  # or x22, x22, x6
     .word 0x003a1293  # slli x5, x20, 3
     .word 0x00228b93  # addi x23, x5, 2
+    .word 0x002b8cb3  # add x25, x23, x2
     .word 0x012bb2b3  # sltu x5, x23, x18
     .word 0x03fbb313  # sltiu x6, x23, 63
     .word 0x0062f2b3  # and x5, x5, x6
-    .word 0x00028a63  # beq x5, x0, 20
-    .word 0x002b8333  # add x6, x23, x2
-    .word 0x01034303  # lbu x6, 16(x6)
+    .word 0x00028863  # beq x5, x0, 16
+    .word 0x010cc303  # lbu x6, 16(x25)
     .word 0x01031313  # slli x6, x6, 16
     .word 0x006aeab3  # or x21, x21, x6
     .word 0x004b8293  # addi x5, x23, 4
     .word 0x0122b2b3  # sltu x5, x5, x18
     .word 0x03bbb313  # sltiu x6, x23, 59
     .word 0x0062f2b3  # and x5, x5, x6
-    .word 0x00028a63  # beq x5, x0, 20
-    .word 0x002b8333  # add x6, x23, x2
-    .word 0x01434303  # lbu x6, 20(x6)
+    .word 0x00028863  # beq x5, x0, 16
+    .word 0x014cc303  # lbu x6, 20(x25)
     .word 0x01031313  # slli x6, x6, 16
     .word 0x006b6b33  # or x22, x22, x6
     .word 0x003a1293  # slli x5, x20, 3
     .word 0x00328b93  # addi x23, x5, 3
+    .word 0x002b8cb3  # add x25, x23, x2
     .word 0x012bb2b3  # sltu x5, x23, x18
     .word 0x03fbb313  # sltiu x6, x23, 63
     .word 0x0062f2b3  # and x5, x5, x6
-    .word 0x00028a63  # beq x5, x0, 20
-    .word 0x002b8333  # add x6, x23, x2
-    .word 0x01034303  # lbu x6, 16(x6)
+    .word 0x00028863  # beq x5, x0, 16
+    .word 0x010cc303  # lbu x6, 16(x25)
     .word 0x01831313  # slli x6, x6, 24
     .word 0x006aeab3  # or x21, x21, x6
     .word 0x004b8293  # addi x5, x23, 4
     .word 0x0122b2b3  # sltu x5, x5, x18
     .word 0x03bbb313  # sltiu x6, x23, 59
     .word 0x0062f2b3  # and x5, x5, x6
-    .word 0x00028a63  # beq x5, x0, 20
-    .word 0x002b8333  # add x6, x23, x2
-    .word 0x01434303  # lbu x6, 20(x6)
+    .word 0x00028863  # beq x5, x0, 16
+    .word 0x014cc303  # lbu x6, 20(x25)
     .word 0x01831313  # slli x6, x6, 24
     .word 0x006b6b33  # or x22, x22, x6
     .word 0x001a0293  # addi x5, x20, 1
@@ -384,7 +383,7 @@ siphash24:
     .word 0x001a0a13  # addi x20, x20, 1
     .word 0x06412283  # lw x5, 100(x2)
     .word 0x005a32b3  # sltu x5, x20, x5
-    .word 0xd60294e3  # bne x5, x0, -664
+    .word 0xd6029ce3  # bne x5, x0, -648
     .word 0xfffa0a13  # addi x20, x20, -1
     .word 0x0040006f  # jal x0, 4
     .word 0x00c542b3  # xor x5, x10, x12
@@ -456,6 +455,8 @@ siphash24:
     .cfi_restore 23
     .word 0x0202ac03  # lw x24, 32(x5)
     .cfi_restore 24
+    .word 0x0242ac83  # lw x25, 36(x5)
+    .cfi_restore 25
     # the caller's x2
     .word 0x04028293  # addi x5, x5, 64
     .cfi_def_cfa 5, 0

@@ -1,4 +1,4 @@
-# siphash24_blocks: made by factc 1.0.0 function; 319 words, 144 bytes of stack, profile 1
+# siphash24_blocks: made by factc 1.0.0 function; 316 words, 144 bytes of stack, profile 1
     .option push
     .option norvc
     .option norelax
@@ -25,6 +25,8 @@ siphash24_blocks:
     .cfi_offset 20, -16
     .word 0x01512a23  # sw x21, 20(x2)
     .cfi_offset 21, -12
+    .word 0x01612c23  # sw x22, 24(x2)
+    .cfi_offset 22, -8
     # arguments that are needed behind the body
     .word 0x00a12e23  # sw x10, 28(x2)
     # the frame's base
@@ -98,6 +100,7 @@ siphash24_blocks:
     .word 0x00000993  # addi x19, x0, 0
     .word 0x00000a13  # addi x20, x0, 0
     .word 0x00000a93  # addi x21, x0, 0
+    .word 0x00298b33  # add x22, x19, x2
     .word 0x00012483  # lw x9, 0(x2)
     .word 0x00412503  # lw x10, 4(x2)
     .word 0x00812583  # lw x11, 8(x2)
@@ -120,37 +123,31 @@ siphash24_blocks:
     .word 0x06c12283  # lw x5, 108(x2)
     .word 0x005332b3  # sltu x5, x6, x5
     .word 0x00029463  # bne x5, x0, 8
-    .word 0x25c0006f  # jal x0, 604
+    .word 0x2440006f  # jal x0, 580
     .word 0x00030913  # addi x18, x6, 0
     .word 0x00391993  # slli x19, x18, 3
-    .word 0x002982b3  # add x5, x19, x2
-    .word 0x0202c283  # lbu x5, 32(x5)
-    .word 0x00298333  # add x6, x19, x2
-    .word 0x02134303  # lbu x6, 33(x6)
+    .word 0x00298b33  # add x22, x19, x2
+    .word 0x020b4283  # lbu x5, 32(x22)
+    .word 0x021b4303  # lbu x6, 33(x22)
     .word 0x00831313  # slli x6, x6, 8
     .word 0x0062e8b3  # or x17, x5, x6
-    .word 0x00298333  # add x6, x19, x2
-    .word 0x02234303  # lbu x6, 34(x6)
+    .word 0x022b4303  # lbu x6, 34(x22)
     .word 0x01031313  # slli x6, x6, 16
     .word 0x0068e2b3  # or x5, x17, x6
-    .word 0x00298333  # add x6, x19, x2
-    .word 0x02334303  # lbu x6, 35(x6)
+    .word 0x023b4303  # lbu x6, 35(x22)
     .word 0x01831313  # slli x6, x6, 24
     .word 0x0062ea33  # or x20, x5, x6
     .word 0x00391293  # slli x5, x18, 3
     .word 0x00428993  # addi x19, x5, 4
-    .word 0x002982b3  # add x5, x19, x2
-    .word 0x0202c283  # lbu x5, 32(x5)
-    .word 0x00298333  # add x6, x19, x2
-    .word 0x02134303  # lbu x6, 33(x6)
+    .word 0x00298b33  # add x22, x19, x2
+    .word 0x020b4283  # lbu x5, 32(x22)
+    .word 0x021b4303  # lbu x6, 33(x22)
     .word 0x00831313  # slli x6, x6, 8
     .word 0x0062e8b3  # or x17, x5, x6
-    .word 0x00298333  # add x6, x19, x2
-    .word 0x02234303  # lbu x6, 34(x6)
+    .word 0x022b4303  # lbu x6, 34(x22)
     .word 0x01031313  # slli x6, x6, 16
     .word 0x0068e2b3  # or x5, x17, x6
-    .word 0x00298333  # add x6, x19, x2
-    .word 0x02334303  # lbu x6, 35(x6)
+    .word 0x023b4303  # lbu x6, 35(x22)
     .word 0x01831313  # slli x6, x6, 24
     .word 0x0062eab3  # or x21, x5, x6
     .word 0x0147c7b3  # xor x15, x15, x20
@@ -268,7 +265,7 @@ siphash24_blocks:
     .word 0x00190913  # addi x18, x18, 1
     .word 0x06c12283  # lw x5, 108(x2)
     .word 0x005932b3  # sltu x5, x18, x5
-    .word 0xda029ce3  # bne x5, x0, -584
+    .word 0xdc0298e3  # bne x5, x0, -560
     .word 0xfff90913  # addi x18, x18, -1
     .word 0x0040006f  # jal x0, 4
     .word 0x00912023  # sw x9, 0(x2)
@@ -315,6 +312,8 @@ siphash24_blocks:
     .cfi_restore 20
     .word 0x0142aa83  # lw x21, 20(x5)
     .cfi_restore 21
+    .word 0x0182ab03  # lw x22, 24(x5)
+    .cfi_restore 22
     # the caller's x2
     .word 0x02028293  # addi x5, x5, 32
     .cfi_def_cfa 5, 0

@@ -6,7 +6,7 @@
 #define FACT_sort_32_H
 #include <stdbool.h>
 #include <stdint.h>
-#define sort_32_STACK_BYTES 176
+#define sort_32_STACK_BYTES 192
 #ifdef __cplusplus
 extern "C" {
 #endif

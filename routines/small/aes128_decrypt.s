@@ -1,4 +1,4 @@
-# aes128_decrypt: made by factc 1.0.0 function; 1103 words, 688 bytes of stack, profile 1
+# aes128_decrypt: made by factc 1.0.0 function; 1108 words, 688 bytes of stack, profile 1
     .option push
     .option norvc
     .option norelax
@@ -75,6 +75,8 @@ aes128_decrypt:
     .word 0x00000a93  # addi x21, x0, 0
     .word 0x00000b13  # addi x22, x0, 0
     .word 0x00000b93  # addi x23, x0, 0
+    .word 0x00289d93  # slli x27, x17, 2
+    .word 0x002d8db3  # add x27, x27, x2
     .word 0x555552b7  # lui x5, 0x55555
     .word 0x55528293  # addi x5, x5, 1365
     .word 0x24512023  # sw x5, 576(x2)
@@ -90,14 +92,15 @@ aes128_decrypt:
     .word 0x222c8c93  # addi x25, x25, 546
     .word 0x00004d37  # lui x26, 0x00004
     .word 0x444d0d13  # addi x26, x26, 1092
-    .word 0x00009db7  # lui x27, 0x00009
-    .word 0x888d8d93  # addi x27, x27, -1912
+    .word 0x000092b7  # lui x5, 0x00009
+    .word 0x88828293  # addi x5, x5, -1912
+    .word 0x24512623  # sw x5, 588(x2)
     .word 0x000102b7  # lui x5, 0x00010
     .word 0xfff28293  # addi x5, x5, -1
-    .word 0x24512623  # sw x5, 588(x2)
+    .word 0x24512823  # sw x5, 592(x2)
     .word 0x000032b7  # lui x5, 0x00003
     .word 0x33328293  # addi x5, x5, 819
-    .word 0x24512823  # sw x5, 592(x2)
+    .word 0x24512a23  # sw x5, 596(x2)
     .word 0x02012023  # sw x0, 32(x2)
     .word 0x02012223  # sw x0, 36(x2)
     .word 0x02012423  # sw x0, 40(x2)
@@ -134,17 +137,17 @@ aes128_decrypt:
     .word 0xfedff06f  # jal x0, -20
     .word 0x00100293  # addi x5, x0, 1
     .word 0x1e512023  # sw x5, 480(x2)
-    .word 0x24012c23  # sw x0, 600(x2)
+    .word 0x24012e23  # sw x0, 604(x2)
     .word 0x00800293  # addi x5, x0, 8
-    .word 0x24512e23  # sw x5, 604(x2)
-    .word 0x25812303  # lw x6, 600(x2)
-    .word 0x25c12283  # lw x5, 604(x2)
+    .word 0x26512023  # sw x5, 608(x2)
+    .word 0x25c12303  # lw x6, 604(x2)
+    .word 0x26012283  # lw x5, 608(x2)
     .word 0x005332b3  # sltu x5, x6, x5
     .word 0x00029463  # bne x5, x0, 8
     .word 0x06c0006f  # jal x0, 108
     .word 0x1e612223  # sw x6, 484(x2)
     .word 0x00130313  # addi x6, x6, 1
-    .word 0x24612c23  # sw x6, 600(x2)
+    .word 0x24612e23  # sw x6, 604(x2)
     .word 0x1e412283  # lw x5, 484(x2)
     .word 0x002282b3  # add x5, x5, x2
     .word 0x0102c283  # lbu x5, 16(x5)
@@ -324,17 +327,17 @@ aes128_decrypt:
     .word 0x00451313  # slli x6, x10, 4
     .word 0x0062c533  # xor x10, x5, x6
     .word 0x04a12623  # sw x10, 76(x2)
-    .word 0x24012c23  # sw x0, 600(x2)
+    .word 0x24012e23  # sw x0, 604(x2)
     .word 0x00800293  # addi x5, x0, 8
-    .word 0x24512e23  # sw x5, 604(x2)
-    .word 0x25812303  # lw x6, 600(x2)
-    .word 0x25c12283  # lw x5, 604(x2)
+    .word 0x26512023  # sw x5, 608(x2)
+    .word 0x25c12303  # lw x6, 604(x2)
+    .word 0x26012283  # lw x5, 608(x2)
     .word 0x005332b3  # sltu x5, x6, x5
     .word 0x00029463  # bne x5, x0, 8
     .word 0x0480006f  # jal x0, 72
     .word 0x1e612423  # sw x6, 488(x2)
     .word 0x00130313  # addi x6, x6, 1
-    .word 0x24612c23  # sw x6, 600(x2)
+    .word 0x24612e23  # sw x6, 604(x2)
     .word 0x1e812283  # lw x5, 488(x2)
     .word 0x00229293  # slli x5, x5, 2
     .word 0x002282b3  # add x5, x5, x2
@@ -349,20 +352,20 @@ aes128_decrypt:
     .word 0x002282b3  # add x5, x5, x2
     .word 0x02a2a023  # sw x10, 32(x5)
     .word 0xfadff06f  # jal x0, -84
-    .word 0x24012c23  # sw x0, 600(x2)
+    .word 0x24012e23  # sw x0, 604(x2)
     .word 0x01400293  # addi x5, x0, 20
-    .word 0x24512e23  # sw x5, 604(x2)
-    .word 0x25812303  # lw x6, 600(x2)
-    .word 0x25c12283  # lw x5, 604(x2)
+    .word 0x26512023  # sw x5, 608(x2)
+    .word 0x25c12303  # lw x6, 604(x2)
+    .word 0x26012283  # lw x5, 608(x2)
     .word 0x005332b3  # sltu x5, x6, x5
     .word 0x00029463  # bne x5, x0, 8
-    .word 0x0a90006f  # jal x0, 2216
+    .word 0x0b10006f  # jal x0, 2224
     .word 0x1e612623  # sw x6, 492(x2)
     .word 0x00130313  # addi x6, x6, 1
-    .word 0x24612c23  # sw x6, 600(x2)
+    .word 0x24612e23  # sw x6, 604(x2)
     .word 0x1ec12283  # lw x5, 492(x2)
     .word 0x00a00313  # addi x6, x0, 10
-    .word 0x06629c63  # bne x5, x6, 120
+    .word 0x06629e63  # bne x5, x6, 124
     .word 0x00000493  # addi x9, x0, 0
     .word 0x05048293  # addi x5, x9, 80
     .word 0x00229293  # slli x5, x5, 2
@@ -383,14 +386,15 @@ aes128_decrypt:
     .word 0x01a37333  # and x6, x6, x26
     .word 0x0062e933  # or x18, x5, x6
     .word 0x00455293  # srli x5, x10, 4
-    .word 0x01b2f533  # and x10, x5, x27
+    .word 0x24c12303  # lw x6, 588(x2)
+    .word 0x0062f533  # and x10, x5, x6
     .word 0x00a96333  # or x6, x18, x10
     .word 0x00249293  # slli x5, x9, 2
     .word 0x002282b3  # add x5, x5, x2
     .word 0x0262a023  # sw x6, 32(x5)
     .word 0x00148493  # addi x9, x9, 1
     .word 0x0084b293  # sltiu x5, x9, 8
-    .word 0xf8029ce3  # bne x5, x0, -104
+    .word 0xf8029ae3  # bne x5, x0, -108
     .word 0xfff48493  # addi x9, x9, -1
     .word 0x1ec12283  # lw x5, 492(x2)
     .word 0x00900313  # addi x6, x0, 9
@@ -728,7 +732,7 @@ aes128_decrypt:
     .word 0x00654533  # xor x10, x10, x6
     .word 0x00851313  # slli x6, x10, 8
     .word 0x006542b3  # xor x5, x10, x6
-    .word 0x24c12303  # lw x6, 588(x2)
+    .word 0x25012303  # lw x6, 592(x2)
     .word 0x0062f533  # and x10, x5, x6
     .word 0x00281293  # slli x5, x16, 2
     .word 0x002282b3  # add x5, x5, x2
@@ -749,7 +753,7 @@ aes128_decrypt:
     .word 0x0063f333  # and x6, x7, x6
     .word 0x0062c2b3  # xor x5, x5, x6
     .word 0x1e512023  # sw x5, 480(x2)
-    .word 0x2800006f  # jal x0, 640
+    .word 0x2840006f  # jal x0, 644
     .word 0x02012503  # lw x10, 32(x2)
     .word 0x02412903  # lw x18, 36(x2)
     .word 0x02812b03  # lw x22, 40(x2)
@@ -789,36 +793,36 @@ aes128_decrypt:
     .word 0x406282b3  # sub x5, x5, x6
     .word 0x00329813  # slli x16, x5, 3
     .word 0x00000893  # addi x17, x0, 0
-    .word 0x00289293  # slli x5, x17, 2
-    .word 0x002282b3  # add x5, x5, x2
-    .word 0x0202a283  # lw x5, 32(x5)
+    .word 0x00289d93  # slli x27, x17, 2
+    .word 0x002d8db3  # add x27, x27, x2
+    .word 0x020da283  # lw x5, 32(x27)
     .word 0x01180333  # add x6, x16, x17
     .word 0x00231313  # slli x6, x6, 2
     .word 0x00230333  # add x6, x6, x2
     .word 0x08032303  # lw x6, 128(x6)
     .word 0x0062c2b3  # xor x5, x5, x6
-    .word 0x24c12303  # lw x6, 588(x2)
-    .word 0x0062f533  # and x10, x5, x6
     .word 0x25012303  # lw x6, 592(x2)
+    .word 0x0062f533  # and x10, x5, x6
+    .word 0x25412303  # lw x6, 596(x2)
     .word 0x00657933  # and x18, x10, x6
     .word 0x012542b3  # xor x5, x10, x18
     .word 0x0022d293  # srli x5, x5, 2
     .word 0x00a2cb33  # xor x22, x5, x10
     .word 0x00291913  # slli x18, x18, 2
-    .word 0x012b4333  # xor x6, x22, x18
-    .word 0x00289293  # slli x5, x17, 2
-    .word 0x002282b3  # add x5, x5, x2
-    .word 0x0662a023  # sw x6, 96(x5)
-    .word 0x00289293  # slli x5, x17, 2
-    .word 0x002282b3  # add x5, x5, x2
-    .word 0x02a2a023  # sw x10, 32(x5)
+    .word 0x012b42b3  # xor x5, x22, x18
+    .word 0x065da023  # sw x5, 96(x27)
+    .word 0x02ada023  # sw x10, 32(x27)
     .word 0x00188893  # addi x17, x17, 1
+    .word 0x00289d93  # slli x27, x17, 2
+    .word 0x002d8db3  # add x27, x27, x2
     .word 0x0088b293  # sltiu x5, x17, 8
-    .word 0xf8029ee3  # bne x5, x0, -100
+    .word 0xfa0296e3  # bne x5, x0, -84
     .word 0xfff88893  # addi x17, x17, -1
+    .word 0x00289d93  # slli x27, x17, 2
+    .word 0x002d8db3  # add x27, x27, x2
     .word 0x1ec12283  # lw x5, 492(x2)
     .word 0x01300313  # addi x6, x0, 19
-    .word 0x1662f663  # bgeu x5, x6, 364
+    .word 0x1662f863  # bgeu x5, x6, 368
     .word 0x07812503  # lw x10, 120(x2)
     .word 0x07c12903  # lw x18, 124(x2)
     .word 0x02012283  # lw x5, 32(x2)
@@ -874,7 +878,7 @@ aes128_decrypt:
     .word 0x00391313  # slli x6, x18, 3
     .word 0x0062e933  # or x18, x5, x6
     .word 0x01254533  # xor x10, x10, x18
-    .word 0x25012303  # lw x6, 592(x2)
+    .word 0x25412303  # lw x6, 596(x2)
     .word 0x00657b33  # and x22, x10, x6
     .word 0x01a00313  # addi x6, x0, 26
     .word 0x01535333  # srl x6, x6, x21
@@ -900,16 +904,17 @@ aes128_decrypt:
     .word 0x01a37333  # and x6, x6, x26
     .word 0x0062e933  # or x18, x5, x6
     .word 0x00455293  # srli x5, x10, 4
-    .word 0x01b2f533  # and x10, x5, x27
+    .word 0x24c12303  # lw x6, 588(x2)
+    .word 0x0062f533  # and x10, x5, x6
     .word 0x00a96333  # or x6, x18, x10
     .word 0x002a9293  # slli x5, x21, 2
     .word 0x002282b3  # add x5, x5, x2
     .word 0x0262a023  # sw x6, 32(x5)
     .word 0x001a8a93  # addi x21, x21, 1
     .word 0x008ab293  # sltiu x5, x21, 8
-    .word 0xf4029ce3  # bne x5, x0, -168
+    .word 0xf4029ae3  # bne x5, x0, -172
     .word 0xfffa8a93  # addi x21, x21, -1
-    .word 0xf4cff06f  # jal x0, -2228
+    .word 0xf44ff06f  # jal x0, -2236
     .word 0x02012283  # lw x5, 32(x2)
     .word 0x0012d293  # srli x5, x5, 1
     .word 0x02412303  # lw x6, 36(x2)
@@ -1066,17 +1071,17 @@ aes128_decrypt:
     .word 0x00451313  # slli x6, x10, 4
     .word 0x0062c533  # xor x10, x5, x6
     .word 0x02a12623  # sw x10, 44(x2)
-    .word 0x24012c23  # sw x0, 600(x2)
+    .word 0x24012e23  # sw x0, 604(x2)
     .word 0x00800293  # addi x5, x0, 8
-    .word 0x24512e23  # sw x5, 604(x2)
-    .word 0x25812303  # lw x6, 600(x2)
-    .word 0x25c12283  # lw x5, 604(x2)
+    .word 0x26512023  # sw x5, 608(x2)
+    .word 0x25c12303  # lw x6, 604(x2)
+    .word 0x26012283  # lw x5, 608(x2)
     .word 0x005332b3  # sltu x5, x6, x5
     .word 0x00029463  # bne x5, x0, 8
     .word 0x0400006f  # jal x0, 64
     .word 0x22612e23  # sw x6, 572(x2)
     .word 0x00130313  # addi x6, x6, 1
-    .word 0x24612c23  # sw x6, 600(x2)
+    .word 0x24612e23  # sw x6, 604(x2)
     .word 0x23c12283  # lw x5, 572(x2)
     .word 0x00229513  # slli x10, x5, 2
     .word 0x00250533  # add x10, x10, x2

@@ -1,4 +1,4 @@
-# aes256_decrypt: made by factc 1.0.0 function; 1265 words, 832 bytes of stack, profile 1
+# aes256_decrypt: made by factc 1.0.0 function; 1270 words, 832 bytes of stack, profile 1
     .option push
     .option norvc
     .option norelax
@@ -76,6 +76,8 @@ aes256_decrypt:
     .word 0x00000b13  # addi x22, x0, 0
     .word 0x00000b93  # addi x23, x0, 0
     .word 0x00000c13  # addi x24, x0, 0
+    .word 0x00291d93  # slli x27, x18, 2
+    .word 0x002d8db3  # add x27, x27, x2
     .word 0x555552b7  # lui x5, 0x55555
     .word 0x55528293  # addi x5, x5, 1365
     .word 0x2c512623  # sw x5, 716(x2)
@@ -89,17 +91,18 @@ aes256_decrypt:
     .word 0x111c8c93  # addi x25, x25, 273
     .word 0x00002d37  # lui x26, 0x00002
     .word 0x222d0d13  # addi x26, x26, 546
-    .word 0x00004db7  # lui x27, 0x00004
-    .word 0x444d8d93  # addi x27, x27, 1092
+    .word 0x000042b7  # lui x5, 0x00004
+    .word 0x44428293  # addi x5, x5, 1092
+    .word 0x2c512c23  # sw x5, 728(x2)
     .word 0x000092b7  # lui x5, 0x00009
     .word 0x88828293  # addi x5, x5, -1912
-    .word 0x2c512c23  # sw x5, 728(x2)
+    .word 0x2c512e23  # sw x5, 732(x2)
     .word 0x000102b7  # lui x5, 0x00010
     .word 0xfff28293  # addi x5, x5, -1
-    .word 0x2c512e23  # sw x5, 732(x2)
+    .word 0x2e512023  # sw x5, 736(x2)
     .word 0x000032b7  # lui x5, 0x00003
     .word 0x33328293  # addi x5, x5, 819
-    .word 0x2e512023  # sw x5, 736(x2)
+    .word 0x2e512223  # sw x5, 740(x2)
     .word 0x02012823  # sw x0, 48(x2)
     .word 0x02012a23  # sw x0, 52(x2)
     .word 0x02012c23  # sw x0, 56(x2)
@@ -136,17 +139,17 @@ aes256_decrypt:
     .word 0xfedff06f  # jal x0, -20
     .word 0x00100293  # addi x5, x0, 1
     .word 0x26512823  # sw x5, 624(x2)
-    .word 0x2e012423  # sw x0, 744(x2)
+    .word 0x2e012623  # sw x0, 748(x2)
     .word 0x00800293  # addi x5, x0, 8
-    .word 0x2e512623  # sw x5, 748(x2)
-    .word 0x2e812303  # lw x6, 744(x2)
-    .word 0x2ec12283  # lw x5, 748(x2)
+    .word 0x2e512823  # sw x5, 752(x2)
+    .word 0x2ec12303  # lw x6, 748(x2)
+    .word 0x2f012283  # lw x5, 752(x2)
     .word 0x005332b3  # sltu x5, x6, x5
     .word 0x00029463  # bne x5, x0, 8
     .word 0x09c0006f  # jal x0, 156
     .word 0x26612a23  # sw x6, 628(x2)
     .word 0x00130313  # addi x6, x6, 1
-    .word 0x2e612423  # sw x6, 744(x2)
+    .word 0x2e612623  # sw x6, 748(x2)
     .word 0x27412283  # lw x5, 628(x2)
     .word 0x002282b3  # add x5, x5, x2
     .word 0x0202c283  # lbu x5, 32(x5)
@@ -494,17 +497,17 @@ aes256_decrypt:
     .word 0x00459313  # slli x6, x11, 4
     .word 0x0062c5b3  # xor x11, x5, x6
     .word 0x02b12e23  # sw x11, 60(x2)
-    .word 0x2e012423  # sw x0, 744(x2)
+    .word 0x2e012623  # sw x0, 748(x2)
     .word 0x00800293  # addi x5, x0, 8
-    .word 0x2e512623  # sw x5, 748(x2)
-    .word 0x2e812303  # lw x6, 744(x2)
-    .word 0x2ec12283  # lw x5, 748(x2)
+    .word 0x2e512823  # sw x5, 752(x2)
+    .word 0x2ec12303  # lw x6, 748(x2)
+    .word 0x2f012283  # lw x5, 752(x2)
     .word 0x005332b3  # sltu x5, x6, x5
     .word 0x00029463  # bne x5, x0, 8
     .word 0x0580006f  # jal x0, 88
     .word 0x26612c23  # sw x6, 632(x2)
     .word 0x00130313  # addi x6, x6, 1
-    .word 0x2e612423  # sw x6, 744(x2)
+    .word 0x2e612623  # sw x6, 748(x2)
     .word 0x27812283  # lw x5, 632(x2)
     .word 0x00229293  # slli x5, x5, 2
     .word 0x002282b3  # add x5, x5, x2
@@ -525,7 +528,7 @@ aes256_decrypt:
     .word 0xf9dff06f  # jal x0, -100
     .word 0x00000493  # addi x9, x0, 0
     .word 0x00d00313  # addi x6, x0, 13
-    .word 0x06649e63  # bne x9, x6, 124
+    .word 0x08649063  # bne x9, x6, 128
     .word 0x00000513  # addi x10, x0, 0
     .word 0x07050293  # addi x5, x10, 112
     .word 0x00229293  # slli x5, x5, 2
@@ -543,10 +546,11 @@ aes256_decrypt:
     .word 0x01a37333  # and x6, x6, x26
     .word 0x0062e2b3  # or x5, x5, x6
     .word 0x0085d313  # srli x6, x11, 8
-    .word 0x01b37333  # and x6, x6, x27
+    .word 0x2d812383  # lw x7, 728(x2)
+    .word 0x00737333  # and x6, x6, x7
     .word 0x0062e9b3  # or x19, x5, x6
     .word 0x0045d293  # srli x5, x11, 4
-    .word 0x2d812303  # lw x6, 728(x2)
+    .word 0x2dc12303  # lw x6, 732(x2)
     .word 0x0062f5b3  # and x11, x5, x6
     .word 0x00b9e333  # or x6, x19, x11
     .word 0x00251293  # slli x5, x10, 2
@@ -554,7 +558,7 @@ aes256_decrypt:
     .word 0x0262a823  # sw x6, 48(x5)
     .word 0x00150513  # addi x10, x10, 1
     .word 0x00853293  # sltiu x5, x10, 8
-    .word 0xf8029ae3  # bne x5, x0, -108
+    .word 0xf80298e3  # bne x5, x0, -112
     .word 0xfff50513  # addi x10, x10, -1
     .word 0x00c00313  # addi x6, x0, 12
     .word 0x08937663  # bgeu x6, x9, 140
@@ -891,7 +895,7 @@ aes256_decrypt:
     .word 0x0065c5b3  # xor x11, x11, x6
     .word 0x00859313  # slli x6, x11, 8
     .word 0x0065c2b3  # xor x5, x11, x6
-    .word 0x2dc12303  # lw x6, 732(x2)
+    .word 0x2e012303  # lw x6, 736(x2)
     .word 0x0062f5b3  # and x11, x5, x6
     .word 0x00289293  # slli x5, x17, 2
     .word 0x002282b3  # add x5, x5, x2
@@ -909,7 +913,7 @@ aes256_decrypt:
     .word 0x27012283  # lw x5, 624(x2)
     .word 0x00129293  # slli x5, x5, 1
     .word 0x26512823  # sw x5, 624(x2)
-    .word 0x27c0006f  # jal x0, 636
+    .word 0x2800006f  # jal x0, 640
     .word 0x03012583  # lw x11, 48(x2)
     .word 0x03412983  # lw x19, 52(x2)
     .word 0x03812b83  # lw x23, 56(x2)
@@ -948,35 +952,35 @@ aes256_decrypt:
     .word 0x409282b3  # sub x5, x5, x9
     .word 0x00329893  # slli x17, x5, 3
     .word 0x00000913  # addi x18, x0, 0
-    .word 0x00291293  # slli x5, x18, 2
-    .word 0x002282b3  # add x5, x5, x2
-    .word 0x0302a283  # lw x5, 48(x5)
+    .word 0x00291d93  # slli x27, x18, 2
+    .word 0x002d8db3  # add x27, x27, x2
+    .word 0x030da283  # lw x5, 48(x27)
     .word 0x01288333  # add x6, x17, x18
     .word 0x00231313  # slli x6, x6, 2
     .word 0x00230333  # add x6, x6, x2
     .word 0x09032303  # lw x6, 144(x6)
     .word 0x0062c2b3  # xor x5, x5, x6
-    .word 0x2dc12303  # lw x6, 732(x2)
-    .word 0x0062f5b3  # and x11, x5, x6
     .word 0x2e012303  # lw x6, 736(x2)
+    .word 0x0062f5b3  # and x11, x5, x6
+    .word 0x2e412303  # lw x6, 740(x2)
     .word 0x0065f9b3  # and x19, x11, x6
     .word 0x0135c2b3  # xor x5, x11, x19
     .word 0x0022d293  # srli x5, x5, 2
     .word 0x00b2cbb3  # xor x23, x5, x11
     .word 0x00299993  # slli x19, x19, 2
-    .word 0x013bc333  # xor x6, x23, x19
-    .word 0x00291293  # slli x5, x18, 2
-    .word 0x002282b3  # add x5, x5, x2
-    .word 0x0662a823  # sw x6, 112(x5)
-    .word 0x00291293  # slli x5, x18, 2
-    .word 0x002282b3  # add x5, x5, x2
-    .word 0x02b2a823  # sw x11, 48(x5)
+    .word 0x013bc2b3  # xor x5, x23, x19
+    .word 0x065da823  # sw x5, 112(x27)
+    .word 0x02bda823  # sw x11, 48(x27)
     .word 0x00190913  # addi x18, x18, 1
+    .word 0x00291d93  # slli x27, x18, 2
+    .word 0x002d8db3  # add x27, x27, x2
     .word 0x00893293  # sltiu x5, x18, 8
-    .word 0xf8029ee3  # bne x5, x0, -100
+    .word 0xfa0296e3  # bne x5, x0, -84
     .word 0xfff90913  # addi x18, x18, -1
+    .word 0x00291d93  # slli x27, x18, 2
+    .word 0x002d8db3  # add x27, x27, x2
     .word 0x01a00313  # addi x6, x0, 26
-    .word 0x1664f863  # bgeu x9, x6, 368
+    .word 0x1664fa63  # bgeu x9, x6, 372
     .word 0x08812583  # lw x11, 136(x2)
     .word 0x08c12983  # lw x19, 140(x2)
     .word 0x03012283  # lw x5, 48(x2)
@@ -1032,7 +1036,7 @@ aes256_decrypt:
     .word 0x00399313  # slli x6, x19, 3
     .word 0x0062e9b3  # or x19, x5, x6
     .word 0x0135c5b3  # xor x11, x11, x19
-    .word 0x2e012303  # lw x6, 736(x2)
+    .word 0x2e412303  # lw x6, 740(x2)
     .word 0x0065fbb3  # and x23, x11, x6
     .word 0x01a00313  # addi x6, x0, 26
     .word 0x01635333  # srl x6, x6, x22
@@ -1055,10 +1059,11 @@ aes256_decrypt:
     .word 0x01a37333  # and x6, x6, x26
     .word 0x0062e2b3  # or x5, x5, x6
     .word 0x0085d313  # srli x6, x11, 8
-    .word 0x01b37333  # and x6, x6, x27
+    .word 0x2d812383  # lw x7, 728(x2)
+    .word 0x00737333  # and x6, x6, x7
     .word 0x0062e9b3  # or x19, x5, x6
     .word 0x0045d293  # srli x5, x11, 4
-    .word 0x2d812303  # lw x6, 728(x2)
+    .word 0x2dc12303  # lw x6, 732(x2)
     .word 0x0062f5b3  # and x11, x5, x6
     .word 0x00b9e333  # or x6, x19, x11
     .word 0x002b1293  # slli x5, x22, 2
@@ -1066,11 +1071,11 @@ aes256_decrypt:
     .word 0x0262a823  # sw x6, 48(x5)
     .word 0x001b0b13  # addi x22, x22, 1
     .word 0x008b3293  # sltiu x5, x22, 8
-    .word 0xf4029ae3  # bne x5, x0, -172
+    .word 0xf40298e3  # bne x5, x0, -176
     .word 0xfffb0b13  # addi x22, x22, -1
     .word 0x00148493  # addi x9, x9, 1
     .word 0x01b4b293  # sltiu x5, x9, 27
-    .word 0xf6029c63  # bne x5, x0, -2184
+    .word 0xf6029863  # bne x5, x0, -2192
     .word 0xfff48493  # addi x9, x9, -1
     .word 0x03012283  # lw x5, 48(x2)
     .word 0x0012d293  # srli x5, x5, 1
@@ -1228,17 +1233,17 @@ aes256_decrypt:
     .word 0x00459313  # slli x6, x11, 4
     .word 0x0062c5b3  # xor x11, x5, x6
     .word 0x02b12e23  # sw x11, 60(x2)
-    .word 0x2e012423  # sw x0, 744(x2)
+    .word 0x2e012623  # sw x0, 748(x2)
     .word 0x00800293  # addi x5, x0, 8
-    .word 0x2e512623  # sw x5, 748(x2)
-    .word 0x2e812303  # lw x6, 744(x2)
-    .word 0x2ec12283  # lw x5, 748(x2)
+    .word 0x2e512823  # sw x5, 752(x2)
+    .word 0x2ec12303  # lw x6, 748(x2)
+    .word 0x2f012283  # lw x5, 752(x2)
     .word 0x005332b3  # sltu x5, x6, x5
     .word 0x00029463  # bne x5, x0, 8
     .word 0x0400006f  # jal x0, 64
     .word 0x2c612423  # sw x6, 712(x2)
     .word 0x00130313  # addi x6, x6, 1
-    .word 0x2e612423  # sw x6, 744(x2)
+    .word 0x2e612623  # sw x6, 748(x2)
     .word 0x2c812283  # lw x5, 712(x2)
     .word 0x00229593  # slli x11, x5, 2
     .word 0x002585b3  # add x11, x11, x2

@@ -1,4 +1,4 @@
-# base64_encode: made by factc 1.0.0 function; 215 words, 160 bytes of stack, profile 1
+# base64_encode: made by factc 1.0.0 function; 208 words, 176 bytes of stack, profile 1
     .option push
     .option norvc
     .option norelax
@@ -10,18 +10,22 @@
 base64_encode:
     .cfi_startproc
     # room above the frame
-    .word 0xff010113  # addi x2, x2, -16
-    .cfi_def_cfa_offset 16
+    .word 0xfe010113  # addi x2, x2, -32
+    .cfi_def_cfa_offset 32
     # the caller's registers
     .word 0x00912023  # sw x9, 0(x2)
-    .cfi_offset 9, -16
+    .cfi_offset 9, -32
+    .word 0x01212223  # sw x18, 4(x2)
+    .cfi_offset 18, -28
+    .word 0x01312423  # sw x19, 8(x2)
+    .cfi_offset 19, -24
     # arguments that are needed behind the body
-    .word 0x00a12223  # sw x10, 4(x2)
-    .word 0x00b12423  # sw x11, 8(x2)
-    .word 0x00c12623  # sw x12, 12(x2)
+    .word 0x00a12a23  # sw x10, 20(x2)
+    .word 0x00b12c23  # sw x11, 24(x2)
+    .word 0x00c12e23  # sw x12, 28(x2)
     # the frame's base
     .word 0xf7010113  # addi x2, x2, -144
-    .cfi_def_cfa 2, 160
+    .cfi_def_cfa 2, 176
     # parameter 0: an array
     .word 0x00050293  # addi x5, x10, 0
     .word 0x00010313  # addi x6, x2, 0
@@ -52,6 +56,8 @@ base64_encode:
     .word 0x00000793  # addi x15, x0, 0
     .word 0x00000813  # addi x16, x0, 0
     .word 0x00000893  # addi x17, x0, 0
+    .word 0x00260933  # add x18, x12, x2
+    .word 0x002689b3  # add x19, x13, x2
     .word 0x00000513  # addi x10, x0, 0
     .word 0x00000593  # addi x11, x0, 0
     .word 0x00600293  # addi x5, x0, 6
@@ -59,23 +65,22 @@ base64_encode:
     .word 0x00300313  # addi x6, x0, 3
     .word 0x02b30333  # mul x6, x6, x11
     .word 0x00628633  # add x12, x5, x6
+    .word 0x00260933  # add x18, x12, x2
     .word 0x00351293  # slli x5, x10, 3
     .word 0x00259313  # slli x6, x11, 2
     .word 0x006286b3  # add x13, x5, x6
-    .word 0x1e967063  # bgeu x12, x9, 480
-    .word 0x002602b3  # add x5, x12, x2
-    .word 0x0002c283  # lbu x5, 0(x5)
+    .word 0x002689b3  # add x19, x13, x2
+    .word 0x1c967263  # bgeu x12, x9, 452
+    .word 0x00094283  # lbu x5, 0(x18)
     .word 0x01029713  # slli x14, x5, 16
     .word 0x00160293  # addi x5, x12, 1
-    .word 0x0092fa63  # bgeu x5, x9, 20
-    .word 0x00260333  # add x6, x12, x2
-    .word 0x00134303  # lbu x6, 1(x6)
+    .word 0x0092f863  # bgeu x5, x9, 16
+    .word 0x00194303  # lbu x6, 1(x18)
     .word 0x00831313  # slli x6, x6, 8
     .word 0x00676733  # or x14, x14, x6
     .word 0x00260293  # addi x5, x12, 2
-    .word 0x0092f863  # bgeu x5, x9, 16
-    .word 0x00260333  # add x6, x12, x2
-    .word 0x00234303  # lbu x6, 2(x6)
+    .word 0x0092f663  # bgeu x5, x9, 12
+    .word 0x00294303  # lbu x6, 2(x18)
     .word 0x00676733  # or x14, x14, x6
     .word 0x01275793  # srli x15, x14, 18
     .word 0x04178813  # addi x16, x15, 65
@@ -122,10 +127,8 @@ base64_encode:
     .word 0xfff30313  # addi x6, x6, -1
     .word 0x0063f333  # and x6, x7, x6
     .word 0x00680833  # add x16, x16, x6
-    .word 0x002682b3  # add x5, x13, x2
-    .word 0x03128a23  # sb x17, 52(x5)
-    .word 0x002682b3  # add x5, x13, x2
-    .word 0x03028aa3  # sb x16, 53(x5)
+    .word 0x03198a23  # sb x17, 52(x19)
+    .word 0x03098aa3  # sb x16, 53(x19)
     .word 0x00675293  # srli x5, x14, 6
     .word 0x03f2f793  # andi x15, x5, 63
     .word 0x04178813  # addi x16, x15, 65
@@ -152,8 +155,7 @@ base64_encode:
     .word 0x00260313  # addi x6, x12, 2
     .word 0x0064f463  # bgeu x9, x6, 8
     .word 0x03d00813  # addi x16, x0, 61
-    .word 0x002682b3  # add x5, x13, x2
-    .word 0x03028b23  # sb x16, 54(x5)
+    .word 0x03098b23  # sb x16, 54(x19)
     .word 0x03f77813  # andi x16, x14, 63
     .word 0x04180713  # addi x14, x16, 65
     .word 0x01a83313  # sltiu x6, x16, 26
@@ -179,33 +181,24 @@ base64_encode:
     .word 0x00360313  # addi x6, x12, 3
     .word 0x0064f463  # bgeu x9, x6, 8
     .word 0x03d00813  # addi x16, x0, 61
-    .word 0x002682b3  # add x5, x13, x2
-    .word 0x03028ba3  # sb x16, 55(x5)
-    .word 0x0340006f  # jal x0, 52
-    .word 0x00000313  # addi x6, x0, 0
-    .word 0x002682b3  # add x5, x13, x2
-    .word 0x02628a23  # sb x6, 52(x5)
-    .word 0x00000313  # addi x6, x0, 0
-    .word 0x002682b3  # add x5, x13, x2
-    .word 0x02628aa3  # sb x6, 53(x5)
-    .word 0x00000313  # addi x6, x0, 0
-    .word 0x002682b3  # add x5, x13, x2
-    .word 0x02628b23  # sb x6, 54(x5)
-    .word 0x00000313  # addi x6, x0, 0
-    .word 0x002682b3  # add x5, x13, x2
-    .word 0x02628ba3  # sb x6, 55(x5)
+    .word 0x03098ba3  # sb x16, 55(x19)
+    .word 0x0140006f  # jal x0, 20
+    .word 0x02098a23  # sb x0, 52(x19)
+    .word 0x02098aa3  # sb x0, 53(x19)
+    .word 0x02098b23  # sb x0, 54(x19)
+    .word 0x02098ba3  # sb x0, 55(x19)
     .word 0x00158593  # addi x11, x11, 1
     .word 0x0025b293  # sltiu x5, x11, 2
-    .word 0xdc0294e3  # bne x5, x0, -568
+    .word 0xde029ee3  # bne x5, x0, -516
     .word 0xfff58593  # addi x11, x11, -1
     .word 0x00150513  # addi x10, x10, 1
     .word 0x00853293  # sltiu x5, x10, 8
-    .word 0xda029ae3  # bne x5, x0, -588
+    .word 0xde0294e3  # bne x5, x0, -536
     .word 0xfff50513  # addi x10, x10, -1
     # the result
     .word 0x00000513  # addi x10, x0, 0
     # parameter 2: the array, back
-    .word 0x09c12283  # lw x5, 156(x2)
+    .word 0x0ac12283  # lw x5, 172(x2)
     .word 0x03410313  # addi x6, x2, 52
     .word 0x04028393  # addi x7, x5, 64
     .word 0x00034e03  # lbu x28, 0(x6)
@@ -218,8 +211,12 @@ base64_encode:
     # the caller's registers
     .word 0x0002a483  # lw x9, 0(x5)
     .cfi_restore 9
+    .word 0x0042a903  # lw x18, 4(x5)
+    .cfi_restore 18
+    .word 0x0082a983  # lw x19, 8(x5)
+    .cfi_restore 19
     # the caller's x2
-    .word 0x01028293  # addi x5, x5, 16
+    .word 0x02028293  # addi x5, x5, 32
     .cfi_def_cfa 5, 0
     # all the room, wiped upward
     .word 0x00012023  # sw x0, 0(x2)

@@ -44,15 +44,15 @@ compare_32:
     .word 0x00000593  # addi x11, x0, 0
     .word 0x00000613  # addi x12, x0, 0
     .word 0x00000693  # addi x13, x0, 0
+    .word 0x00258733  # add x14, x11, x2
     .word 0x00000413  # addi x8, x0, 0
     .word 0x00000493  # addi x9, x0, 0
     .word 0x00000513  # addi x10, x0, 0
     .word 0x01f00293  # addi x5, x0, 31
     .word 0x40a285b3  # sub x11, x5, x10
-    .word 0x00258633  # add x12, x11, x2
-    .word 0x00064603  # lbu x12, 0(x12)
-    .word 0x002586b3  # add x13, x11, x2
-    .word 0x0206c683  # lbu x13, 32(x13)
+    .word 0x00258733  # add x14, x11, x2
+    .word 0x00074603  # lbu x12, 0(x14)
+    .word 0x02074683  # lbu x13, 32(x14)
     .word 0x40d602b3  # sub x5, x12, x13
     .word 0x408282b3  # sub x5, x5, x8
     .word 0x01f2d413  # srli x8, x5, 31
@@ -60,7 +60,7 @@ compare_32:
     .word 0x0064e4b3  # or x9, x9, x6
     .word 0x00150513  # addi x10, x10, 1
     .word 0x02053293  # sltiu x5, x10, 32
-    .word 0xfc0296e3  # bne x5, x0, -52
+    .word 0xfc0298e3  # bne x5, x0, -48
     .word 0xfff50513  # addi x10, x10, -1
     .word 0x00903633  # sltu x12, x0, x9
     .word 0x00c602b3  # add x5, x12, x12

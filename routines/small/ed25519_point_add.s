@@ -1,4 +1,4 @@
-# ed25519_point_add: made by factc 1.0.0 function; 750 words, 1408 bytes of stack, profile 1
+# ed25519_point_add: made by factc 1.0.0 function; 760 words, 1408 bytes of stack, profile 1
     .option push
     .option norvc
     .option norelax
@@ -42,8 +42,8 @@ ed25519_point_add:
     # the frame's base
     .word 0xac010113  # addi x2, x2, -1344
     .cfi_def_cfa 2, 1408
-    # the frame's word at 1292, zeroed
-    .word 0x50012623  # sw x0, 1292(x2)
+    # the frame's word at 1296, zeroed
+    .word 0x50012823  # sw x0, 1296(x2)
     # parameter 0: an array
     .word 0x00050293  # addi x5, x10, 0
     .word 0x00010313  # addi x6, x2, 0
@@ -80,10 +80,11 @@ ed25519_point_add:
     .word 0x00000c13  # addi x24, x0, 0
     .word 0x00000c93  # addi x25, x0, 0
     .word 0x00000d13  # addi x26, x0, 0
-    .word 0x00000d93  # addi x27, x0, 0
+    .word 0x002b1d93  # slli x27, x22, 2
+    .word 0x002d8db3  # add x27, x27, x2
     .word 0x800002b7  # lui x5, 0x80000
     .word 0xfff28293  # addi x5, x5, -1
-    .word 0x50512a23  # sw x5, 1300(x2)
+    .word 0x50512c23  # sw x5, 1304(x2)
     .word 0x18000313  # addi x6, x0, 384
     .word 0x00230333  # add x6, x6, x2
     .word 0x20000393  # addi x7, x0, 512
@@ -250,17 +251,17 @@ ed25519_point_add:
     .word 0x2406e2b7  # lui x5, 0x2406e
     .word 0x9dc28293  # addi x5, x5, -1572
     .word 0x3e512623  # sw x5, 1004(x2)
-    .word 0x50012e23  # sw x0, 1308(x2)
+    .word 0x52012023  # sw x0, 1312(x2)
     .word 0x02000293  # addi x5, x0, 32
-    .word 0x52512023  # sw x5, 1312(x2)
-    .word 0x51c12303  # lw x6, 1308(x2)
-    .word 0x52012283  # lw x5, 1312(x2)
+    .word 0x52512223  # sw x5, 1316(x2)
+    .word 0x52012303  # lw x6, 1312(x2)
+    .word 0x52412283  # lw x5, 1316(x2)
     .word 0x005332b3  # sltu x5, x6, x5
     .word 0x00029463  # bne x5, x0, 8
     .word 0x0540006f  # jal x0, 84
     .word 0x3e612823  # sw x6, 1008(x2)
     .word 0x00130313  # addi x6, x6, 1
-    .word 0x50612e23  # sw x6, 1308(x2)
+    .word 0x52612023  # sw x6, 1312(x2)
     .word 0x3f012283  # lw x5, 1008(x2)
     .word 0x3f012303  # lw x6, 1008(x2)
     .word 0x00231313  # slli x6, x6, 2
@@ -278,17 +279,17 @@ ed25519_point_add:
     .word 0x002282b3  # add x5, x5, x2
     .word 0x2062a023  # sw x6, 512(x5)
     .word 0xfa1ff06f  # jal x0, -96
-    .word 0x50012e23  # sw x0, 1308(x2)
+    .word 0x52012023  # sw x0, 1312(x2)
     .word 0x00800293  # addi x5, x0, 8
-    .word 0x52512023  # sw x5, 1312(x2)
-    .word 0x51c12303  # lw x6, 1308(x2)
-    .word 0x52012283  # lw x5, 1312(x2)
+    .word 0x52512223  # sw x5, 1316(x2)
+    .word 0x52012303  # lw x6, 1312(x2)
+    .word 0x52412283  # lw x5, 1316(x2)
     .word 0x005332b3  # sltu x5, x6, x5
     .word 0x00029463  # bne x5, x0, 8
     .word 0x0380006f  # jal x0, 56
     .word 0x3e612a23  # sw x6, 1012(x2)
     .word 0x00130313  # addi x6, x6, 1
-    .word 0x50612e23  # sw x6, 1308(x2)
+    .word 0x52612023  # sw x6, 1312(x2)
     .word 0x3f412283  # lw x5, 1012(x2)
     .word 0x04028293  # addi x5, x5, 64
     .word 0x3f412303  # lw x6, 1012(x2)
@@ -299,17 +300,17 @@ ed25519_point_add:
     .word 0x002282b3  # add x5, x5, x2
     .word 0x1862a023  # sw x6, 384(x5)
     .word 0xfbdff06f  # jal x0, -68
-    .word 0x50012e23  # sw x0, 1308(x2)
+    .word 0x52012023  # sw x0, 1312(x2)
     .word 0x01200293  # addi x5, x0, 18
-    .word 0x52512023  # sw x5, 1312(x2)
-    .word 0x51c12303  # lw x6, 1308(x2)
-    .word 0x52012283  # lw x5, 1312(x2)
+    .word 0x52512223  # sw x5, 1316(x2)
+    .word 0x52012303  # lw x6, 1312(x2)
+    .word 0x52412283  # lw x5, 1316(x2)
     .word 0x005332b3  # sltu x5, x6, x5
     .word 0x00029463  # bne x5, x0, 8
-    .word 0x5340006f  # jal x0, 1332
+    .word 0x5580006f  # jal x0, 1368
     .word 0x3e612c23  # sw x6, 1016(x2)
     .word 0x00130313  # addi x6, x6, 1
-    .word 0x50612e23  # sw x6, 1308(x2)
+    .word 0x52612023  # sw x6, 1312(x2)
     .word 0x3f812283  # lw x5, 1016(x2)
     .word 0x002282b3  # add x5, x5, x2
     .word 0x3802c283  # lbu x5, 896(x5)
@@ -427,29 +428,29 @@ ed25519_point_add:
     .word 0x00430313  # addi x6, x6, 4
     .word 0xfedff06f  # jal x0, -20
     .word 0x00000b13  # addi x22, x0, 0
-    .word 0x002b1a93  # slli x21, x22, 2
-    .word 0x002a8ab3  # add x21, x21, x2
-    .word 0x460aaa83  # lw x21, 1120(x21)
+    .word 0x002b1d93  # slli x27, x22, 2
+    .word 0x002d8db3  # add x27, x27, x2
+    .word 0x460daa83  # lw x21, 1120(x27)
     .word 0x02600313  # addi x6, x0, 38
     .word 0x026a8733  # mul x14, x21, x6
     .word 0x02600313  # addi x6, x0, 38
     .word 0x026aba33  # mulhu x20, x21, x6
-    .word 0x002b1293  # slli x5, x22, 2
-    .word 0x002282b3  # add x5, x5, x2
-    .word 0x4402a283  # lw x5, 1088(x5)
+    .word 0x440da283  # lw x5, 1088(x27)
     .word 0x00e28ab3  # add x21, x5, x14
     .word 0x013a87b3  # add x15, x21, x19
     .word 0x00eab333  # sltu x6, x21, x14
     .word 0x006a02b3  # add x5, x20, x6
     .word 0x0137b333  # sltu x6, x15, x19
     .word 0x006289b3  # add x19, x5, x6
-    .word 0x002b1293  # slli x5, x22, 2
-    .word 0x002282b3  # add x5, x5, x2
-    .word 0x48f2a023  # sw x15, 1152(x5)
+    .word 0x48fda023  # sw x15, 1152(x27)
     .word 0x001b0b13  # addi x22, x22, 1
+    .word 0x002b1d93  # slli x27, x22, 2
+    .word 0x002d8db3  # add x27, x27, x2
     .word 0x008b3293  # sltiu x5, x22, 8
-    .word 0xfa0296e3  # bne x5, x0, -84
+    .word 0xfa029ee3  # bne x5, x0, -68
     .word 0xfffb0b13  # addi x22, x22, -1
+    .word 0x002b1d93  # slli x27, x22, 2
+    .word 0x002d8db3  # add x27, x27, x2
     .word 0x01300293  # addi x5, x0, 19
     .word 0x00199313  # slli x6, x19, 1
     .word 0x49c12383  # lw x7, 1180(x2)
@@ -471,10 +472,10 @@ ed25519_point_add:
     .word 0xfc029ae3  # bne x5, x0, -44
     .word 0xfffb8b93  # addi x23, x23, -1
     .word 0x49c12283  # lw x5, 1180(x2)
-    .word 0x51412303  # lw x6, 1300(x2)
+    .word 0x51812303  # lw x6, 1304(x2)
     .word 0x0062f2b3  # and x5, x5, x6
     .word 0x01528ab3  # add x21, x5, x21
-    .word 0x51412383  # lw x7, 1300(x2)
+    .word 0x51812383  # lw x7, 1304(x2)
     .word 0x007af333  # and x6, x21, x7
     .word 0x00251293  # slli x5, x10, 2
     .word 0x002282b3  # add x5, x5, x2
@@ -497,10 +498,10 @@ ed25519_point_add:
     .word 0x00251293  # slli x5, x10, 2
     .word 0x002282b3  # add x5, x5, x2
     .word 0x1862a223  # sw x6, 388(x5)
-    .word 0x2340006f  # jal x0, 564
+    .word 0x2580006f  # jal x0, 600
     .word 0x3fc12283  # lw x5, 1020(x2)
     .word 0x00100313  # addi x6, x0, 1
-    .word 0x14629263  # bne x5, x6, 324
+    .word 0x16629463  # bne x5, x6, 360
     .word 0x00000a93  # addi x21, x0, 0
     .word 0x4a000313  # addi x6, x0, 1184
     .word 0x00230333  # add x6, x6, x2
@@ -539,25 +540,34 @@ ed25519_point_add:
     .word 0x01f3d393  # srli x7, x7, 31
     .word 0x00736333  # or x6, x6, x7
     .word 0x02628ab3  # mul x21, x5, x6
-    .word 0x00000c93  # addi x25, x0, 0
-    .word 0x002c9293  # slli x5, x25, 2
+    .word 0x52012423  # sw x0, 1320(x2)
+    .word 0x00700293  # addi x5, x0, 7
+    .word 0x52512623  # sw x5, 1324(x2)
+    .word 0x52812303  # lw x6, 1320(x2)
+    .word 0x52c12283  # lw x5, 1324(x2)
+    .word 0x005332b3  # sltu x5, x6, x5
+    .word 0x00029463  # bne x5, x0, 8
+    .word 0x0400006f  # jal x0, 64
+    .word 0x4c612023  # sw x6, 1216(x2)
+    .word 0x00130313  # addi x6, x6, 1
+    .word 0x52612423  # sw x6, 1320(x2)
+    .word 0x4c012283  # lw x5, 1216(x2)
+    .word 0x00229293  # slli x5, x5, 2
     .word 0x002282b3  # add x5, x5, x2
     .word 0x4a02a283  # lw x5, 1184(x5)
     .word 0x015289b3  # add x19, x5, x21
     .word 0x0159bab3  # sltu x21, x19, x21
-    .word 0x019502b3  # add x5, x10, x25
+    .word 0x4c012303  # lw x6, 1216(x2)
+    .word 0x006502b3  # add x5, x10, x6
     .word 0x00229293  # slli x5, x5, 2
     .word 0x002282b3  # add x5, x5, x2
     .word 0x1932a023  # sw x19, 384(x5)
-    .word 0x001c8c93  # addi x25, x25, 1
-    .word 0x007cb293  # sltiu x5, x25, 7
-    .word 0xfc029ae3  # bne x5, x0, -44
-    .word 0xfffc8c93  # addi x25, x25, -1
+    .word 0xfb5ff06f  # jal x0, -76
     .word 0x4bc12283  # lw x5, 1212(x2)
-    .word 0x51412303  # lw x6, 1300(x2)
+    .word 0x51812303  # lw x6, 1304(x2)
     .word 0x0062f2b3  # and x5, x5, x6
     .word 0x01528ab3  # add x21, x5, x21
-    .word 0x51412383  # lw x7, 1300(x2)
+    .word 0x51812383  # lw x7, 1304(x2)
     .word 0x007af333  # and x6, x21, x7
     .word 0x00251293  # slli x5, x10, 2
     .word 0x002282b3  # add x5, x5, x2
@@ -582,7 +592,7 @@ ed25519_point_add:
     .word 0x1862a223  # sw x6, 388(x5)
     .word 0x0e80006f  # jal x0, 232
     .word 0x00000a93  # addi x21, x0, 0
-    .word 0x4c000313  # addi x6, x0, 1216
+    .word 0x4c400313  # addi x6, x0, 1220
     .word 0x00230333  # add x6, x6, x2
     .word 0x02000393  # addi x7, x0, 32
     .word 0x006383b3  # add x7, x7, x6
@@ -592,45 +602,45 @@ ed25519_point_add:
     .word 0x00032023  # sw x0, 0(x6)
     .word 0x00430313  # addi x6, x6, 4
     .word 0xfedff06f  # jal x0, -20
-    .word 0x00000d13  # addi x26, x0, 0
-    .word 0x01a582b3  # add x5, x11, x26
+    .word 0x00000c93  # addi x25, x0, 0
+    .word 0x019582b3  # add x5, x11, x25
     .word 0x00229993  # slli x19, x5, 2
     .word 0x002989b3  # add x19, x19, x2
     .word 0x1809a983  # lw x19, 384(x19)
-    .word 0x01a602b3  # add x5, x12, x26
+    .word 0x019602b3  # add x5, x12, x25
     .word 0x00229713  # slli x14, x5, 2
     .word 0x00270733  # add x14, x14, x2
     .word 0x18072703  # lw x14, 384(x14)
     .word 0x40e987b3  # sub x15, x19, x14
     .word 0x41578333  # sub x6, x15, x21
-    .word 0x002d1293  # slli x5, x26, 2
+    .word 0x002c9293  # slli x5, x25, 2
     .word 0x002282b3  # add x5, x5, x2
-    .word 0x4c62a023  # sw x6, 1216(x5)
+    .word 0x4c62a223  # sw x6, 1220(x5)
     .word 0x00e9b2b3  # sltu x5, x19, x14
     .word 0x0157b333  # sltu x6, x15, x21
     .word 0x00628ab3  # add x21, x5, x6
-    .word 0x001d0d13  # addi x26, x26, 1
-    .word 0x008d3293  # sltiu x5, x26, 8
+    .word 0x001c8c93  # addi x25, x25, 1
+    .word 0x008cb293  # sltiu x5, x25, 8
     .word 0xfa029ce3  # bne x5, x0, -72
-    .word 0xfffd0d13  # addi x26, x26, -1
+    .word 0xfffc8c93  # addi x25, x25, -1
     .word 0x02600293  # addi x5, x0, 38
     .word 0x03528ab3  # mul x21, x5, x21
-    .word 0x52012223  # sw x0, 1316(x2)
+    .word 0x52012423  # sw x0, 1320(x2)
     .word 0x00800293  # addi x5, x0, 8
-    .word 0x52512423  # sw x5, 1320(x2)
-    .word 0x52412303  # lw x6, 1316(x2)
-    .word 0x52812283  # lw x5, 1320(x2)
+    .word 0x52512623  # sw x5, 1324(x2)
+    .word 0x52812303  # lw x6, 1320(x2)
+    .word 0x52c12283  # lw x5, 1324(x2)
     .word 0x005332b3  # sltu x5, x6, x5
     .word 0x00029463  # bne x5, x0, 8
     .word 0x0400006f  # jal x0, 64
-    .word 0x4e612023  # sw x6, 1248(x2)
+    .word 0x4e612223  # sw x6, 1252(x2)
     .word 0x00130313  # addi x6, x6, 1
-    .word 0x52612223  # sw x6, 1316(x2)
-    .word 0x4e012283  # lw x5, 1248(x2)
+    .word 0x52612423  # sw x6, 1320(x2)
+    .word 0x4e412283  # lw x5, 1252(x2)
     .word 0x00229993  # slli x19, x5, 2
     .word 0x002989b3  # add x19, x19, x2
-    .word 0x4c09a983  # lw x19, 1216(x19)
-    .word 0x4e012303  # lw x6, 1248(x2)
+    .word 0x4c49a983  # lw x19, 1220(x19)
+    .word 0x4e412303  # lw x6, 1252(x2)
     .word 0x006502b3  # add x5, x10, x6
     .word 0x41598333  # sub x6, x19, x21
     .word 0x00229293  # slli x5, x5, 2
@@ -638,22 +648,22 @@ ed25519_point_add:
     .word 0x1862a023  # sw x6, 384(x5)
     .word 0x0159bab3  # sltu x21, x19, x21
     .word 0xfb5ff06f  # jal x0, -76
-    .word 0xac1ff06f  # jal x0, -1344
-    .word 0x50012e23  # sw x0, 1308(x2)
+    .word 0xa9dff06f  # jal x0, -1380
+    .word 0x52012023  # sw x0, 1312(x2)
     .word 0x00400293  # addi x5, x0, 4
-    .word 0x52512023  # sw x5, 1312(x2)
-    .word 0x51c12303  # lw x6, 1308(x2)
-    .word 0x52012283  # lw x5, 1312(x2)
+    .word 0x52512223  # sw x5, 1316(x2)
+    .word 0x52012303  # lw x6, 1312(x2)
+    .word 0x52412283  # lw x5, 1316(x2)
     .word 0x005332b3  # sltu x5, x6, x5
     .word 0x00029463  # bne x5, x0, 8
     .word 0x11c0006f  # jal x0, 284
-    .word 0x4e612223  # sw x6, 1252(x2)
+    .word 0x4e612423  # sw x6, 1256(x2)
     .word 0x00130313  # addi x6, x6, 1
-    .word 0x50612e23  # sw x6, 1308(x2)
-    .word 0x4e412283  # lw x5, 1252(x2)
+    .word 0x52612023  # sw x6, 1312(x2)
+    .word 0x4e812283  # lw x5, 1256(x2)
     .word 0x00329513  # slli x10, x5, 3
     .word 0x01300a93  # addi x21, x0, 19
-    .word 0x4e800313  # addi x6, x0, 1256
+    .word 0x4ec00313  # addi x6, x0, 1260
     .word 0x00230333  # add x6, x6, x2
     .word 0x02000393  # addi x7, x0, 32
     .word 0x006383b3  # add x7, x7, x6
@@ -663,45 +673,45 @@ ed25519_point_add:
     .word 0x00032023  # sw x0, 0(x6)
     .word 0x00430313  # addi x6, x6, 4
     .word 0xfedff06f  # jal x0, -20
-    .word 0x52012223  # sw x0, 1316(x2)
+    .word 0x52012423  # sw x0, 1320(x2)
     .word 0x00800293  # addi x5, x0, 8
-    .word 0x52512423  # sw x5, 1320(x2)
-    .word 0x52412303  # lw x6, 1316(x2)
-    .word 0x52812283  # lw x5, 1320(x2)
+    .word 0x52512623  # sw x5, 1324(x2)
+    .word 0x52812303  # lw x6, 1320(x2)
+    .word 0x52c12283  # lw x5, 1324(x2)
     .word 0x005332b3  # sltu x5, x6, x5
     .word 0x00029463  # bne x5, x0, 8
     .word 0x0400006f  # jal x0, 64
-    .word 0x50612423  # sw x6, 1288(x2)
+    .word 0x50612623  # sw x6, 1292(x2)
     .word 0x00130313  # addi x6, x6, 1
-    .word 0x52612223  # sw x6, 1316(x2)
-    .word 0x50812303  # lw x6, 1288(x2)
+    .word 0x52612423  # sw x6, 1320(x2)
+    .word 0x50c12303  # lw x6, 1292(x2)
     .word 0x006502b3  # add x5, x10, x6
     .word 0x00229293  # slli x5, x5, 2
     .word 0x002282b3  # add x5, x5, x2
     .word 0x1802a283  # lw x5, 384(x5)
     .word 0x015289b3  # add x19, x5, x21
     .word 0x0159bab3  # sltu x21, x19, x21
-    .word 0x50812283  # lw x5, 1288(x2)
+    .word 0x50c12283  # lw x5, 1292(x2)
     .word 0x00229293  # slli x5, x5, 2
     .word 0x002282b3  # add x5, x5, x2
-    .word 0x4f32a423  # sw x19, 1256(x5)
+    .word 0x4f32a623  # sw x19, 1260(x5)
     .word 0xfb5ff06f  # jal x0, -76
-    .word 0x50412283  # lw x5, 1284(x2)
+    .word 0x50812283  # lw x5, 1288(x2)
     .word 0x01f2d293  # srli x5, x5, 31
     .word 0xfff28293  # addi x5, x5, -1
     .word 0x0012b293  # sltiu x5, x5, 1
-    .word 0x50512623  # sw x5, 1292(x2)
-    .word 0x50412283  # lw x5, 1284(x2)
-    .word 0x51412303  # lw x6, 1300(x2)
+    .word 0x50512823  # sw x5, 1296(x2)
+    .word 0x50812283  # lw x5, 1288(x2)
+    .word 0x51812303  # lw x6, 1304(x2)
     .word 0x0062f2b3  # and x5, x5, x6
-    .word 0x50512223  # sw x5, 1284(x2)
-    .word 0x00000d93  # addi x27, x0, 0
-    .word 0x01b502b3  # add x5, x10, x27
-    .word 0x50c12303  # lw x6, 1292(x2)
-    .word 0x002d9393  # slli x7, x27, 2
+    .word 0x50512423  # sw x5, 1288(x2)
+    .word 0x00000d13  # addi x26, x0, 0
+    .word 0x01a502b3  # add x5, x10, x26
+    .word 0x51012303  # lw x6, 1296(x2)
+    .word 0x002d1393  # slli x7, x26, 2
     .word 0x002383b3  # add x7, x7, x2
-    .word 0x4e83a383  # lw x7, 1256(x7)
-    .word 0x01b50433  # add x8, x10, x27
+    .word 0x4ec3a383  # lw x7, 1260(x7)
+    .word 0x01a50433  # add x8, x10, x26
     .word 0x00241413  # slli x8, x8, 2
     .word 0x00240433  # add x8, x8, x2
     .word 0x18042403  # lw x8, 384(x8)
@@ -712,24 +722,24 @@ ed25519_point_add:
     .word 0x00229293  # slli x5, x5, 2
     .word 0x002282b3  # add x5, x5, x2
     .word 0x1862a023  # sw x6, 384(x5)
-    .word 0x001d8d93  # addi x27, x27, 1
-    .word 0x008db293  # sltiu x5, x27, 8
+    .word 0x001d0d13  # addi x26, x26, 1
+    .word 0x008d3293  # sltiu x5, x26, 8
     .word 0xfa029ce3  # bne x5, x0, -72
-    .word 0xfffd8d93  # addi x27, x27, -1
+    .word 0xfffd0d13  # addi x26, x26, -1
     .word 0xed9ff06f  # jal x0, -296
-    .word 0x50012e23  # sw x0, 1308(x2)
+    .word 0x52012023  # sw x0, 1312(x2)
     .word 0x02000293  # addi x5, x0, 32
-    .word 0x52512023  # sw x5, 1312(x2)
-    .word 0x51c12303  # lw x6, 1308(x2)
-    .word 0x52012283  # lw x5, 1312(x2)
+    .word 0x52512223  # sw x5, 1316(x2)
+    .word 0x52012303  # lw x6, 1312(x2)
+    .word 0x52412283  # lw x5, 1316(x2)
     .word 0x005332b3  # sltu x5, x6, x5
     .word 0x00029463  # bne x5, x0, 8
     .word 0x0340006f  # jal x0, 52
-    .word 0x50612823  # sw x6, 1296(x2)
+    .word 0x50612a23  # sw x6, 1300(x2)
     .word 0x00130313  # addi x6, x6, 1
-    .word 0x50612e23  # sw x6, 1308(x2)
-    .word 0x51012283  # lw x5, 1296(x2)
-    .word 0x51012303  # lw x6, 1296(x2)
+    .word 0x52612023  # sw x6, 1312(x2)
+    .word 0x51412283  # lw x5, 1300(x2)
+    .word 0x51412303  # lw x6, 1300(x2)
     .word 0x00231313  # slli x6, x6, 2
     .word 0x00230333  # add x6, x6, x2
     .word 0x18032303  # lw x6, 384(x6)

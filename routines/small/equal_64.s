@@ -1,4 +1,4 @@
-# equal_64: made by factc 1.0.0 function; 61 words, 160 bytes of stack, profile 1
+# equal_64: made by factc 1.0.0 function; 63 words, 160 bytes of stack, profile 1
     .option push
     .option norvc
     .option norelax
@@ -41,18 +41,20 @@ equal_64:
     .word 0xfe7298e3  # bne x5, x7, -16
     # the body
     .word 0x00000493  # addi x9, x0, 0
+    .word 0x00248533  # add x10, x9, x2
     .word 0x00000413  # addi x8, x0, 0
     .word 0x00000493  # addi x9, x0, 0
-    .word 0x00248333  # add x6, x9, x2
-    .word 0x00034303  # lbu x6, 0(x6)
-    .word 0x002483b3  # add x7, x9, x2
-    .word 0x0403c383  # lbu x7, 64(x7)
+    .word 0x00248533  # add x10, x9, x2
+    .word 0x00054303  # lbu x6, 0(x10)
+    .word 0x04054383  # lbu x7, 64(x10)
     .word 0x00734333  # xor x6, x6, x7
     .word 0x00646433  # or x8, x8, x6
     .word 0x00148493  # addi x9, x9, 1
+    .word 0x00248533  # add x10, x9, x2
     .word 0x0404b293  # sltiu x5, x9, 64
-    .word 0xfe0290e3  # bne x5, x0, -32
+    .word 0xfe0292e3  # bne x5, x0, -28
     .word 0xfff48493  # addi x9, x9, -1
+    .word 0x00248533  # add x10, x9, x2
     .word 0x00143293  # sltiu x5, x8, 1
     .word 0x08512023  # sw x5, 128(x2)
     # the result

@@ -1,4 +1,4 @@
-# f25519_add: made by factc 1.0.0 function; 230 words, 720 bytes of stack, profile 1
+# f25519_add: made by factc 1.0.0 function; 238 words, 736 bytes of stack, profile 1
     .option push
     .option norvc
     .option norelax
@@ -10,24 +10,28 @@
 f25519_add:
     .cfi_startproc
     # room above the frame
-    .word 0xfe010113  # addi x2, x2, -32
-    .cfi_def_cfa_offset 32
+    .word 0xfd010113  # addi x2, x2, -48
+    .cfi_def_cfa_offset 48
     # the caller's registers
     .word 0x00812023  # sw x8, 0(x2)
-    .cfi_offset 8, -32
+    .cfi_offset 8, -48
     .word 0x01212223  # sw x18, 4(x2)
-    .cfi_offset 18, -28
+    .cfi_offset 18, -44
     .word 0x01312423  # sw x19, 8(x2)
-    .cfi_offset 19, -24
+    .cfi_offset 19, -40
     .word 0x01412623  # sw x20, 12(x2)
-    .cfi_offset 20, -20
+    .cfi_offset 20, -36
+    .word 0x01512823  # sw x21, 16(x2)
+    .cfi_offset 21, -32
+    .word 0x01612a23  # sw x22, 20(x2)
+    .cfi_offset 22, -28
     # arguments that are needed behind the body
-    .word 0x00a12a23  # sw x10, 20(x2)
-    .word 0x00b12c23  # sw x11, 24(x2)
-    .word 0x00c12e23  # sw x12, 28(x2)
+    .word 0x02a12223  # sw x10, 36(x2)
+    .word 0x02b12423  # sw x11, 40(x2)
+    .word 0x02c12623  # sw x12, 44(x2)
     # the frame's base
     .word 0xd5010113  # addi x2, x2, -688
-    .cfi_def_cfa 2, 720
+    .cfi_def_cfa 2, 736
     # parameter 0: an array
     .word 0x00050293  # addi x5, x10, 0
     .word 0x00010313  # addi x6, x2, 0
@@ -56,6 +60,10 @@ f25519_add:
     .word 0x00000893  # addi x17, x0, 0
     .word 0x00000993  # addi x19, x0, 0
     .word 0x00000a13  # addi x20, x0, 0
+    .word 0x00251a93  # slli x21, x10, 2
+    .word 0x002a8ab3  # add x21, x21, x2
+    .word 0x00261b13  # slli x22, x12, 2
+    .word 0x002b0b33  # add x22, x22, x2
     .word 0x06000313  # addi x6, x0, 96
     .word 0x00230333  # add x6, x6, x2
     .word 0x20000393  # addi x7, x0, 512
@@ -67,22 +75,20 @@ f25519_add:
     .word 0x00430313  # addi x6, x6, 4
     .word 0xfedff06f  # jal x0, -20
     .word 0x00000513  # addi x10, x0, 0
-    .word 0x00251313  # slli x6, x10, 2
-    .word 0x00230333  # add x6, x6, x2
-    .word 0x00032303  # lw x6, 0(x6)
-    .word 0x00251293  # slli x5, x10, 2
-    .word 0x002282b3  # add x5, x5, x2
-    .word 0x0662a023  # sw x6, 96(x5)
-    .word 0x00251313  # slli x6, x10, 2
-    .word 0x00230333  # add x6, x6, x2
-    .word 0x02032303  # lw x6, 32(x6)
-    .word 0x00251293  # slli x5, x10, 2
-    .word 0x002282b3  # add x5, x5, x2
-    .word 0x0862a023  # sw x6, 128(x5)
+    .word 0x00251a93  # slli x21, x10, 2
+    .word 0x002a8ab3  # add x21, x21, x2
+    .word 0x000aa283  # lw x5, 0(x21)
+    .word 0x065aa023  # sw x5, 96(x21)
+    .word 0x020aa283  # lw x5, 32(x21)
+    .word 0x085aa023  # sw x5, 128(x21)
     .word 0x00150513  # addi x10, x10, 1
+    .word 0x00251a93  # slli x21, x10, 2
+    .word 0x002a8ab3  # add x21, x21, x2
     .word 0x00853293  # sltiu x5, x10, 8
-    .word 0xfc0294e3  # bne x5, x0, -56
+    .word 0xfe0290e3  # bne x5, x0, -32
     .word 0xfff50513  # addi x10, x10, -1
+    .word 0x00251a93  # slli x21, x10, 2
+    .word 0x002a8ab3  # add x21, x21, x2
     .word 0x00000593  # addi x11, x0, 0
     .word 0x26000313  # addi x6, x0, 608
     .word 0x00230333  # add x6, x6, x2
@@ -95,9 +101,9 @@ f25519_add:
     .word 0x00430313  # addi x6, x6, 4
     .word 0xfedff06f  # jal x0, -20
     .word 0x00000613  # addi x12, x0, 0
-    .word 0x00261693  # slli x13, x12, 2
-    .word 0x002686b3  # add x13, x13, x2
-    .word 0x0606a683  # lw x13, 96(x13)
+    .word 0x00261b13  # slli x22, x12, 2
+    .word 0x002b0b33  # add x22, x22, x2
+    .word 0x060b2683  # lw x13, 96(x22)
     .word 0x00860313  # addi x6, x12, 8
     .word 0x00231313  # slli x6, x6, 2
     .word 0x00230333  # add x6, x6, x2
@@ -107,13 +113,15 @@ f25519_add:
     .word 0x00d732b3  # sltu x5, x14, x13
     .word 0x00b7b333  # sltu x6, x15, x11
     .word 0x006285b3  # add x11, x5, x6
-    .word 0x00261293  # slli x5, x12, 2
-    .word 0x002282b3  # add x5, x5, x2
-    .word 0x26f2a023  # sw x15, 608(x5)
+    .word 0x26fb2023  # sw x15, 608(x22)
     .word 0x00160613  # addi x12, x12, 1
+    .word 0x00261b13  # slli x22, x12, 2
+    .word 0x002b0b33  # add x22, x22, x2
     .word 0x00863293  # sltiu x5, x12, 8
-    .word 0xfa029ee3  # bne x5, x0, -68
+    .word 0xfc0292e3  # bne x5, x0, -60
     .word 0xfff60613  # addi x12, x12, -1
+    .word 0x00261b13  # slli x22, x12, 2
+    .word 0x002b0b33  # add x22, x22, x2
     .word 0x01300293  # addi x5, x0, 19
     .word 0x00159313  # slli x6, x11, 1
     .word 0x27c12383  # lw x7, 636(x2)
@@ -219,7 +227,7 @@ f25519_add:
     # the result
     .word 0x00000513  # addi x10, x0, 0
     # parameter 2: the array, back
-    .word 0x2cc12283  # lw x5, 716(x2)
+    .word 0x2dc12283  # lw x5, 732(x2)
     .word 0x04010313  # addi x6, x2, 64
     .word 0x02028393  # addi x7, x5, 32
     .word 0x00032e03  # lw x28, 0(x6)
@@ -238,8 +246,12 @@ f25519_add:
     .cfi_restore 19
     .word 0x00c2aa03  # lw x20, 12(x5)
     .cfi_restore 20
+    .word 0x0102aa83  # lw x21, 16(x5)
+    .cfi_restore 21
+    .word 0x0142ab03  # lw x22, 20(x5)
+    .cfi_restore 22
     # the caller's x2
-    .word 0x02028293  # addi x5, x5, 32
+    .word 0x03028293  # addi x5, x5, 48
     .cfi_def_cfa 5, 0
     # all the room, wiped upward
     .word 0x00012023  # sw x0, 0(x2)

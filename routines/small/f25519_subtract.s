@@ -1,4 +1,4 @@
-# f25519_subtract: made by factc 1.0.0 function; 231 words, 720 bytes of stack, profile 1
+# f25519_subtract: made by factc 1.0.0 function; 233 words, 720 bytes of stack, profile 1
     .option push
     .option norvc
     .option norelax
@@ -21,6 +21,8 @@ f25519_subtract:
     .cfi_offset 19, -24
     .word 0x01412623  # sw x20, 12(x2)
     .cfi_offset 20, -20
+    .word 0x01512823  # sw x21, 16(x2)
+    .cfi_offset 21, -16
     # arguments that are needed behind the body
     .word 0x00a12a23  # sw x10, 20(x2)
     .word 0x00b12c23  # sw x11, 24(x2)
@@ -55,6 +57,8 @@ f25519_subtract:
     .word 0x00000893  # addi x17, x0, 0
     .word 0x00000993  # addi x19, x0, 0
     .word 0x00000a13  # addi x20, x0, 0
+    .word 0x00261a93  # slli x21, x12, 2
+    .word 0x002a8ab3  # add x21, x21, x2
     .word 0x06000313  # addi x6, x0, 96
     .word 0x00230333  # add x6, x6, x2
     .word 0x20000393  # addi x7, x0, 512
@@ -78,6 +82,8 @@ f25519_subtract:
     .word 0x00000513  # addi x10, x0, 0
     .word 0x00000593  # addi x11, x0, 0
     .word 0x00000613  # addi x12, x0, 0
+    .word 0x00261a93  # slli x21, x12, 2
+    .word 0x002a8ab3  # add x21, x21, x2
     .word 0x00163293  # sltiu x5, x12, 1
     .word 0x00000337  # lui x6, 0x00000
     .word 0xfb430313  # addi x6, x6, -76
@@ -87,32 +93,28 @@ f25519_subtract:
     .word 0x00734333  # xor x6, x6, x7
     .word 0x00537333  # and x6, x6, x5
     .word 0x0063c6b3  # xor x13, x7, x6
-    .word 0x00261293  # slli x5, x12, 2
-    .word 0x002282b3  # add x5, x5, x2
-    .word 0x0002a283  # lw x5, 0(x5)
+    .word 0x000aa283  # lw x5, 0(x21)
     .word 0x00d28733  # add x14, x5, x13
     .word 0x00a707b3  # add x15, x14, x10
     .word 0x00d732b3  # sltu x5, x14, x13
     .word 0x00a7b333  # sltu x6, x15, x10
     .word 0x00628533  # add x10, x5, x6
-    .word 0x00261313  # slli x6, x12, 2
-    .word 0x00230333  # add x6, x6, x2
-    .word 0x02032303  # lw x6, 32(x6)
+    .word 0x020aa303  # lw x6, 32(x21)
     .word 0x406786b3  # sub x13, x15, x6
-    .word 0x40b68333  # sub x6, x13, x11
-    .word 0x00261293  # slli x5, x12, 2
-    .word 0x002282b3  # add x5, x5, x2
-    .word 0x2662a023  # sw x6, 608(x5)
-    .word 0x00261313  # slli x6, x12, 2
-    .word 0x00230333  # add x6, x6, x2
-    .word 0x02032303  # lw x6, 32(x6)
+    .word 0x40b682b3  # sub x5, x13, x11
+    .word 0x265aa023  # sw x5, 608(x21)
+    .word 0x020aa303  # lw x6, 32(x21)
     .word 0x0067b2b3  # sltu x5, x15, x6
     .word 0x00b6b333  # sltu x6, x13, x11
     .word 0x006285b3  # add x11, x5, x6
     .word 0x00160613  # addi x12, x12, 1
+    .word 0x00261a93  # slli x21, x12, 2
+    .word 0x002a8ab3  # add x21, x21, x2
     .word 0x00863293  # sltiu x5, x12, 8
-    .word 0xf6029ee3  # bne x5, x0, -132
+    .word 0xf8029ae3  # bne x5, x0, -108
     .word 0xfff60613  # addi x12, x12, -1
+    .word 0x00261a93  # slli x21, x12, 2
+    .word 0x002a8ab3  # add x21, x21, x2
     .word 0x00150293  # addi x5, x10, 1
     .word 0x40b287b3  # sub x15, x5, x11
     .word 0x01300293  # addi x5, x0, 19
@@ -239,6 +241,8 @@ f25519_subtract:
     .cfi_restore 19
     .word 0x00c2aa03  # lw x20, 12(x5)
     .cfi_restore 20
+    .word 0x0102aa83  # lw x21, 16(x5)
+    .cfi_restore 21
     # the caller's x2
     .word 0x02028293  # addi x5, x5, 32
     .cfi_def_cfa 5, 0

@@ -1,4 +1,4 @@
-# gf256_multiply: made by factc 1.0.0 function; 143 words, 112 bytes of stack, profile 1
+# gf256_multiply: made by factc 1.0.0 function; 135 words, 112 bytes of stack, profile 1
     .option push
     .option norvc
     .option norelax
@@ -17,6 +17,8 @@ gf256_multiply:
     .cfi_offset 8, -32
     .word 0x00912223  # sw x9, 4(x2)
     .cfi_offset 9, -28
+    .word 0x01212423  # sw x18, 8(x2)
+    .cfi_offset 18, -24
     # arguments that are needed behind the body
     .word 0x00a12a23  # sw x10, 20(x2)
     .word 0x00b12c23  # sw x11, 24(x2)
@@ -59,6 +61,7 @@ gf256_multiply:
     .word 0x00000793  # addi x15, x0, 0
     .word 0x00000813  # addi x16, x0, 0
     .word 0x00000893  # addi x17, x0, 0
+    .word 0x00260933  # add x18, x12, x2
     .word 0x01010437  # lui x8, 0x01010
     .word 0x10140413  # addi x8, x8, 257
     .word 0x1b1b24b7  # lui x9, 0x1b1b2
@@ -67,33 +70,26 @@ gf256_multiply:
     .word 0xefe50513  # addi x10, x10, -258
     .word 0x00000593  # addi x11, x0, 0
     .word 0x00259613  # slli x12, x11, 2
+    .word 0x00260933  # add x18, x12, x2
     .word 0x00000693  # addi x13, x0, 0
-    .word 0x002602b3  # add x5, x12, x2
-    .word 0x0002c283  # lbu x5, 0(x5)
-    .word 0x00260333  # add x6, x12, x2
-    .word 0x00134303  # lbu x6, 1(x6)
+    .word 0x00094283  # lbu x5, 0(x18)
+    .word 0x00194303  # lbu x6, 1(x18)
     .word 0x00831313  # slli x6, x6, 8
     .word 0x0062e733  # or x14, x5, x6
-    .word 0x00260333  # add x6, x12, x2
-    .word 0x00234303  # lbu x6, 2(x6)
+    .word 0x00294303  # lbu x6, 2(x18)
     .word 0x01031313  # slli x6, x6, 16
     .word 0x006762b3  # or x5, x14, x6
-    .word 0x00260333  # add x6, x12, x2
-    .word 0x00334303  # lbu x6, 3(x6)
+    .word 0x00394303  # lbu x6, 3(x18)
     .word 0x01831313  # slli x6, x6, 24
     .word 0x0062e733  # or x14, x5, x6
-    .word 0x002602b3  # add x5, x12, x2
-    .word 0x0102c283  # lbu x5, 16(x5)
-    .word 0x00260333  # add x6, x12, x2
-    .word 0x01134303  # lbu x6, 17(x6)
+    .word 0x01094283  # lbu x5, 16(x18)
+    .word 0x01194303  # lbu x6, 17(x18)
     .word 0x00831313  # slli x6, x6, 8
     .word 0x0062e7b3  # or x15, x5, x6
-    .word 0x00260333  # add x6, x12, x2
-    .word 0x01234303  # lbu x6, 18(x6)
+    .word 0x01294303  # lbu x6, 18(x18)
     .word 0x01031313  # slli x6, x6, 16
     .word 0x0067e2b3  # or x5, x15, x6
-    .word 0x00260333  # add x6, x12, x2
-    .word 0x01334303  # lbu x6, 19(x6)
+    .word 0x01394303  # lbu x6, 19(x18)
     .word 0x01831313  # slli x6, x6, 24
     .word 0x0062e7b3  # or x15, x5, x6
     .word 0x00000813  # addi x16, x0, 0
@@ -115,20 +111,16 @@ gf256_multiply:
     .word 0x00883293  # sltiu x5, x16, 8
     .word 0xfc0290e3  # bne x5, x0, -64
     .word 0xfff80813  # addi x16, x16, -1
-    .word 0x002602b3  # add x5, x12, x2
-    .word 0x02d28023  # sb x13, 32(x5)
-    .word 0x0086d313  # srli x6, x13, 8
-    .word 0x002602b3  # add x5, x12, x2
-    .word 0x026280a3  # sb x6, 33(x5)
-    .word 0x0106d313  # srli x6, x13, 16
-    .word 0x002602b3  # add x5, x12, x2
-    .word 0x02628123  # sb x6, 34(x5)
-    .word 0x0186d313  # srli x6, x13, 24
-    .word 0x002602b3  # add x5, x12, x2
-    .word 0x026281a3  # sb x6, 35(x5)
+    .word 0x02d90023  # sb x13, 32(x18)
+    .word 0x0086d293  # srli x5, x13, 8
+    .word 0x025900a3  # sb x5, 33(x18)
+    .word 0x0106d293  # srli x5, x13, 16
+    .word 0x02590123  # sb x5, 34(x18)
+    .word 0x0186d293  # srli x5, x13, 24
+    .word 0x025901a3  # sb x5, 35(x18)
     .word 0x00158593  # addi x11, x11, 1
     .word 0x0045b293  # sltiu x5, x11, 4
-    .word 0xf00294e3  # bne x5, x0, -248
+    .word 0xf2029ae3  # bne x5, x0, -204
     .word 0xfff58593  # addi x11, x11, -1
     # the result
     .word 0x00000513  # addi x10, x0, 0
@@ -148,6 +140,8 @@ gf256_multiply:
     .cfi_restore 8
     .word 0x0042a483  # lw x9, 4(x5)
     .cfi_restore 9
+    .word 0x0082a903  # lw x18, 8(x5)
+    .cfi_restore 18
     # the caller's x2
     .word 0x02028293  # addi x5, x5, 32
     .cfi_def_cfa 5, 0

@@ -1,4 +1,4 @@
-# ghash_block: made by factc 1.0.0 function; 187 words, 128 bytes of stack, profile 1
+# ghash_block: made by factc 1.0.0 function; 193 words, 128 bytes of stack, profile 1
     .option push
     .option norvc
     .option norelax
@@ -27,6 +27,10 @@ ghash_block:
     .cfi_offset 21, -28
     .word 0x01612c23  # sw x22, 24(x2)
     .cfi_offset 22, -24
+    .word 0x01712e23  # sw x23, 28(x2)
+    .cfi_offset 23, -20
+    .word 0x03812023  # sw x24, 32(x2)
+    .cfi_offset 24, -16
     # arguments that are needed behind the body
     .word 0x02a12223  # sw x10, 36(x2)
     .word 0x02b12423  # sw x11, 40(x2)
@@ -67,6 +71,8 @@ ghash_block:
     .word 0x00000913  # addi x18, x0, 0
     .word 0x00000a13  # addi x20, x0, 0
     .word 0x00000a93  # addi x21, x0, 0
+    .word 0x00280bb3  # add x23, x16, x2
+    .word 0x002a0c33  # add x24, x20, x2
     .word 0xe1000b37  # lui x22, 0xe1000
     .word 0x000b0b13  # addi x22, x22, 0
     .word 0x00014283  # lbu x5, 0(x2)
@@ -114,10 +120,9 @@ ghash_block:
     .word 0x00000713  # addi x14, x0, 0
     .word 0x00000793  # addi x15, x0, 0
     .word 0x00000813  # addi x16, x0, 0
-    .word 0x002802b3  # add x5, x16, x2
-    .word 0x0202c283  # lbu x5, 32(x5)
-    .word 0x00280333  # add x6, x16, x2
-    .word 0x01034303  # lbu x6, 16(x6)
+    .word 0x00280bb3  # add x23, x16, x2
+    .word 0x020bc283  # lbu x5, 32(x23)
+    .word 0x010bc303  # lbu x6, 16(x23)
     .word 0x0062c2b3  # xor x5, x5, x6
     .word 0x01829893  # slli x17, x5, 24
     .word 0x00000913  # addi x18, x0, 0
@@ -151,29 +156,30 @@ ghash_block:
     .word 0xf8029ae3  # bne x5, x0, -108
     .word 0xfff90913  # addi x18, x18, -1
     .word 0x00180813  # addi x16, x16, 1
+    .word 0x00280bb3  # add x23, x16, x2
     .word 0x01083293  # sltiu x5, x16, 16
-    .word 0xf60294e3  # bne x5, x0, -152
+    .word 0xf60296e3  # bne x5, x0, -148
     .word 0xfff80813  # addi x16, x16, -1
+    .word 0x00280bb3  # add x23, x16, x2
     .word 0x00000a13  # addi x20, x0, 0
+    .word 0x002a0c33  # add x24, x20, x2
     .word 0x01800293  # addi x5, x0, 24
     .word 0x003a1313  # slli x6, x20, 3
     .word 0x40628ab3  # sub x21, x5, x6
-    .word 0x01565333  # srl x6, x12, x21
-    .word 0x002a02b3  # add x5, x20, x2
-    .word 0x02628023  # sb x6, 32(x5)
-    .word 0x0156d333  # srl x6, x13, x21
-    .word 0x002a02b3  # add x5, x20, x2
-    .word 0x02628223  # sb x6, 36(x5)
-    .word 0x01575333  # srl x6, x14, x21
-    .word 0x002a02b3  # add x5, x20, x2
-    .word 0x02628423  # sb x6, 40(x5)
-    .word 0x0157d333  # srl x6, x15, x21
-    .word 0x002a02b3  # add x5, x20, x2
-    .word 0x02628623  # sb x6, 44(x5)
+    .word 0x015652b3  # srl x5, x12, x21
+    .word 0x025c0023  # sb x5, 32(x24)
+    .word 0x0156d2b3  # srl x5, x13, x21
+    .word 0x025c0223  # sb x5, 36(x24)
+    .word 0x015752b3  # srl x5, x14, x21
+    .word 0x025c0423  # sb x5, 40(x24)
+    .word 0x0157d2b3  # srl x5, x15, x21
+    .word 0x025c0623  # sb x5, 44(x24)
     .word 0x001a0a13  # addi x20, x20, 1
+    .word 0x002a0c33  # add x24, x20, x2
     .word 0x004a3293  # sltiu x5, x20, 4
-    .word 0xfa029ee3  # bne x5, x0, -68
+    .word 0xfc0294e3  # bne x5, x0, -56
     .word 0xfffa0a13  # addi x20, x20, -1
+    .word 0x002a0c33  # add x24, x20, x2
     # the result
     .word 0x00000513  # addi x10, x0, 0
     # parameter 2: the array, back
@@ -202,6 +208,10 @@ ghash_block:
     .cfi_restore 21
     .word 0x0182ab03  # lw x22, 24(x5)
     .cfi_restore 22
+    .word 0x01c2ab83  # lw x23, 28(x5)
+    .cfi_restore 23
+    .word 0x0202ac03  # lw x24, 32(x5)
+    .cfi_restore 24
     # the caller's x2
     .word 0x03028293  # addi x5, x5, 48
     .cfi_def_cfa 5, 0

@@ -1,4 +1,4 @@
-# ghash_blocks: made by factc 1.0.0 function; 799 words, 656 bytes of stack, profile 1
+# ghash_blocks: made by factc 1.0.0 function; 806 words, 656 bytes of stack, profile 1
     .option push
     .option norvc
     .option norelax
@@ -88,14 +88,17 @@ ghash_blocks:
     .word 0x00000a93  # addi x21, x0, 0
     .word 0x00000b13  # addi x22, x0, 0
     .word 0x00000b93  # addi x23, x0, 0
+    .word 0x00259d93  # slli x27, x11, 2
+    .word 0x002d8db3  # add x27, x27, x2
     .word 0x11111c37  # lui x24, 0x11111
     .word 0x111c0c13  # addi x24, x24, 273
     .word 0x22222cb7  # lui x25, 0x22222
     .word 0x222c8c93  # addi x25, x25, 546
     .word 0x44444d37  # lui x26, 0x44444
     .word 0x444d0d13  # addi x26, x26, 1092
-    .word 0x88889db7  # lui x27, 0x88889
-    .word 0x888d8d93  # addi x27, x27, -1912
+    .word 0x888892b7  # lui x5, 0x88889
+    .word 0x88828293  # addi x5, x5, -1912
+    .word 0x22512823  # sw x5, 560(x2)
     .word 0x12400313  # addi x6, x0, 292
     .word 0x00230333  # add x6, x6, x2
     .word 0x01000393  # addi x7, x0, 16
@@ -116,21 +119,23 @@ ghash_blocks:
     .word 0x00032023  # sw x0, 0(x6)
     .word 0x00430313  # addi x6, x6, 4
     .word 0xfedff06f  # jal x0, -20
-    .word 0x22012a23  # sw x0, 564(x2)
+    .word 0x22012c23  # sw x0, 568(x2)
     .word 0x00400293  # addi x5, x0, 4
-    .word 0x22512c23  # sw x5, 568(x2)
-    .word 0x23412303  # lw x6, 564(x2)
-    .word 0x23812283  # lw x5, 568(x2)
+    .word 0x22512e23  # sw x5, 572(x2)
+    .word 0x23812303  # lw x6, 568(x2)
+    .word 0x23c12283  # lw x5, 572(x2)
     .word 0x005332b3  # sltu x5, x6, x5
     .word 0x00029463  # bne x5, x0, 8
-    .word 0x0c40006f  # jal x0, 196
+    .word 0x0d40006f  # jal x0, 212
     .word 0x14612223  # sw x6, 324(x2)
     .word 0x00130313  # addi x6, x6, 1
-    .word 0x22612a23  # sw x6, 564(x2)
+    .word 0x22612c23  # sw x6, 568(x2)
     .word 0x00c00293  # addi x5, x0, 12
     .word 0x14412303  # lw x6, 324(x2)
     .word 0x00231313  # slli x6, x6, 2
     .word 0x406285b3  # sub x11, x5, x6
+    .word 0x00259d93  # slli x27, x11, 2
+    .word 0x002d8db3  # add x27, x27, x2
     .word 0x002582b3  # add x5, x11, x2
     .word 0x0002c283  # lbu x5, 0(x5)
     .word 0x01829293  # slli x5, x5, 24
@@ -153,6 +158,8 @@ ghash_blocks:
     .word 0x14412303  # lw x6, 324(x2)
     .word 0x00231313  # slli x6, x6, 2
     .word 0x406285b3  # sub x11, x5, x6
+    .word 0x00259d93  # slli x27, x11, 2
+    .word 0x002d8db3  # add x27, x27, x2
     .word 0x002582b3  # add x5, x11, x2
     .word 0x1142c283  # lbu x5, 276(x5)
     .word 0x01829293  # slli x5, x5, 24
@@ -171,7 +178,7 @@ ghash_blocks:
     .word 0x00229293  # slli x5, x5, 2
     .word 0x002282b3  # add x5, x5, x2
     .word 0x1262aa23  # sw x6, 308(x5)
-    .word 0xf31ff06f  # jal x0, -208
+    .word 0xf21ff06f  # jal x0, -224
     .word 0x14800313  # addi x6, x0, 328
     .word 0x00230333  # add x6, x6, x2
     .word 0x02400393  # addi x7, x0, 36
@@ -182,17 +189,17 @@ ghash_blocks:
     .word 0x00032023  # sw x0, 0(x6)
     .word 0x00430313  # addi x6, x6, 4
     .word 0xfedff06f  # jal x0, -20
-    .word 0x22012a23  # sw x0, 564(x2)
+    .word 0x22012c23  # sw x0, 568(x2)
     .word 0x00400293  # addi x5, x0, 4
-    .word 0x22512c23  # sw x5, 568(x2)
-    .word 0x23412303  # lw x6, 564(x2)
-    .word 0x23812283  # lw x5, 568(x2)
+    .word 0x22512e23  # sw x5, 572(x2)
+    .word 0x23812303  # lw x6, 568(x2)
+    .word 0x23c12283  # lw x5, 572(x2)
     .word 0x005332b3  # sltu x5, x6, x5
     .word 0x00029463  # bne x5, x0, 8
     .word 0x0340006f  # jal x0, 52
     .word 0x16612623  # sw x6, 364(x2)
     .word 0x00130313  # addi x6, x6, 1
-    .word 0x22612a23  # sw x6, 564(x2)
+    .word 0x22612c23  # sw x6, 568(x2)
     .word 0x16c12283  # lw x5, 364(x2)
     .word 0x16c12303  # lw x6, 364(x2)
     .word 0x00231313  # slli x6, x6, 2
@@ -233,35 +240,37 @@ ghash_blocks:
     .word 0x10100313  # addi x6, x0, 257
     .word 0x0262f2b3  # remu x5, x5, x6
     .word 0x16512823  # sw x5, 368(x2)
-    .word 0x22012a23  # sw x0, 564(x2)
+    .word 0x22012c23  # sw x0, 568(x2)
     .word 0x17012283  # lw x5, 368(x2)
     .word 0x00f28293  # addi x5, x5, 15
     .word 0x0042d293  # srli x5, x5, 4
-    .word 0x22512c23  # sw x5, 568(x2)
-    .word 0x23412303  # lw x6, 564(x2)
-    .word 0x23812283  # lw x5, 568(x2)
+    .word 0x22512e23  # sw x5, 572(x2)
+    .word 0x23812303  # lw x6, 568(x2)
+    .word 0x23c12283  # lw x5, 572(x2)
     .word 0x005332b3  # sltu x5, x6, x5
     .word 0x00029463  # bne x5, x0, 8
     .word 0x0150006f  # jal x0, 2068
     .word 0x16612a23  # sw x6, 372(x2)
     .word 0x00130313  # addi x6, x6, 1
-    .word 0x22612a23  # sw x6, 564(x2)
+    .word 0x22612c23  # sw x6, 568(x2)
     .word 0x17412283  # lw x5, 372(x2)
     .word 0x00429593  # slli x11, x5, 4
+    .word 0x00259d93  # slli x27, x11, 2
+    .word 0x002d8db3  # add x27, x27, x2
     .word 0x01058293  # addi x5, x11, 16
     .word 0x17012303  # lw x6, 368(x2)
     .word 0x0e536263  # bltu x6, x5, 228
-    .word 0x22012e23  # sw x0, 572(x2)
+    .word 0x24012023  # sw x0, 576(x2)
     .word 0x00400293  # addi x5, x0, 4
-    .word 0x24512023  # sw x5, 576(x2)
-    .word 0x23c12303  # lw x6, 572(x2)
-    .word 0x24012283  # lw x5, 576(x2)
+    .word 0x24512223  # sw x5, 580(x2)
+    .word 0x24012303  # lw x6, 576(x2)
+    .word 0x24412283  # lw x5, 580(x2)
     .word 0x005332b3  # sltu x5, x6, x5
     .word 0x00029463  # bne x5, x0, 8
     .word 0x0c00006f  # jal x0, 192
     .word 0x16612c23  # sw x6, 376(x2)
     .word 0x00130313  # addi x6, x6, 1
-    .word 0x22612e23  # sw x6, 572(x2)
+    .word 0x24612023  # sw x6, 576(x2)
     .word 0x00c00313  # addi x6, x0, 12
     .word 0x17812383  # lw x7, 376(x2)
     .word 0x00239393  # slli x7, x7, 2
@@ -307,17 +316,17 @@ ghash_blocks:
     .word 0x1262aa23  # sw x6, 308(x5)
     .word 0xf35ff06f  # jal x0, -204
     .word 0x0a80006f  # jal x0, 168
-    .word 0x22012e23  # sw x0, 572(x2)
+    .word 0x24012023  # sw x0, 576(x2)
     .word 0x01000293  # addi x5, x0, 16
-    .word 0x24512023  # sw x5, 576(x2)
-    .word 0x23c12303  # lw x6, 572(x2)
-    .word 0x24012283  # lw x5, 576(x2)
+    .word 0x24512223  # sw x5, 580(x2)
+    .word 0x24012303  # lw x6, 576(x2)
+    .word 0x24412283  # lw x5, 580(x2)
     .word 0x005332b3  # sltu x5, x6, x5
     .word 0x00029463  # bne x5, x0, 8
     .word 0x0880006f  # jal x0, 136
     .word 0x16612e23  # sw x6, 380(x2)
     .word 0x00130313  # addi x6, x6, 1
-    .word 0x22612e23  # sw x6, 572(x2)
+    .word 0x24612023  # sw x6, 576(x2)
     .word 0x17c12303  # lw x6, 380(x2)
     .word 0x006582b3  # add x5, x11, x6
     .word 0x17012303  # lw x6, 368(x2)
@@ -368,17 +377,17 @@ ghash_blocks:
     .word 0x00032023  # sw x0, 0(x6)
     .word 0x00430313  # addi x6, x6, 4
     .word 0xfedff06f  # jal x0, -20
-    .word 0x22012e23  # sw x0, 572(x2)
+    .word 0x24012023  # sw x0, 576(x2)
     .word 0x00400293  # addi x5, x0, 4
-    .word 0x24512023  # sw x5, 576(x2)
-    .word 0x23c12303  # lw x6, 572(x2)
-    .word 0x24012283  # lw x5, 576(x2)
+    .word 0x24512223  # sw x5, 580(x2)
+    .word 0x24012303  # lw x6, 576(x2)
+    .word 0x24412283  # lw x5, 580(x2)
     .word 0x005332b3  # sltu x5, x6, x5
     .word 0x00029463  # bne x5, x0, 8
     .word 0x0340006f  # jal x0, 52
     .word 0x1c612223  # sw x6, 452(x2)
     .word 0x00130313  # addi x6, x6, 1
-    .word 0x22612e23  # sw x6, 572(x2)
+    .word 0x24612023  # sw x6, 576(x2)
     .word 0x1c412283  # lw x5, 452(x2)
     .word 0x1c412303  # lw x6, 452(x2)
     .word 0x00231313  # slli x6, x6, 2
@@ -428,47 +437,47 @@ ghash_blocks:
     .word 0x00032023  # sw x0, 0(x6)
     .word 0x00430313  # addi x6, x6, 4
     .word 0xfedff06f  # jal x0, -20
-    .word 0x22012e23  # sw x0, 572(x2)
+    .word 0x24012023  # sw x0, 576(x2)
     .word 0x00300293  # addi x5, x0, 3
-    .word 0x24512023  # sw x5, 576(x2)
-    .word 0x23c12303  # lw x6, 572(x2)
-    .word 0x24012283  # lw x5, 576(x2)
+    .word 0x24512223  # sw x5, 580(x2)
+    .word 0x24012303  # lw x6, 576(x2)
+    .word 0x24412283  # lw x5, 580(x2)
     .word 0x005332b3  # sltu x5, x6, x5
     .word 0x00029463  # bne x5, x0, 8
-    .word 0x1d80006f  # jal x0, 472
+    .word 0x1d00006f  # jal x0, 464
     .word 0x20612823  # sw x6, 528(x2)
     .word 0x00130313  # addi x6, x6, 1
-    .word 0x22612e23  # sw x6, 572(x2)
-    .word 0x24012223  # sw x0, 580(x2)
+    .word 0x24612023  # sw x6, 576(x2)
+    .word 0x24012423  # sw x0, 584(x2)
     .word 0x00300293  # addi x5, x0, 3
-    .word 0x24512423  # sw x5, 584(x2)
-    .word 0x24412303  # lw x6, 580(x2)
-    .word 0x24812283  # lw x5, 584(x2)
+    .word 0x24512623  # sw x5, 588(x2)
+    .word 0x24812303  # lw x6, 584(x2)
+    .word 0x24c12283  # lw x5, 588(x2)
     .word 0x005332b3  # sltu x5, x6, x5
     .word 0x00029463  # bne x5, x0, 8
-    .word 0x1a80006f  # jal x0, 424
+    .word 0x1a00006f  # jal x0, 416
     .word 0x20612a23  # sw x6, 532(x2)
     .word 0x00130313  # addi x6, x6, 1
-    .word 0x24612223  # sw x6, 580(x2)
+    .word 0x24612423  # sw x6, 584(x2)
     .word 0x00300293  # addi x5, x0, 3
     .word 0x21012303  # lw x6, 528(x2)
     .word 0x026282b3  # mul x5, x5, x6
     .word 0x21412303  # lw x6, 532(x2)
     .word 0x006285b3  # add x11, x5, x6
-    .word 0x00259793  # slli x15, x11, 2
-    .word 0x002787b3  # add x15, x15, x2
-    .word 0x1487a783  # lw x15, 328(x15)
-    .word 0x00259993  # slli x19, x11, 2
-    .word 0x002989b3  # add x19, x19, x2
-    .word 0x1a09a983  # lw x19, 416(x19)
+    .word 0x00259d93  # slli x27, x11, 2
+    .word 0x002d8db3  # add x27, x27, x2
+    .word 0x148da783  # lw x15, 328(x27)
+    .word 0x1a0da983  # lw x19, 416(x27)
     .word 0x0187f633  # and x12, x15, x24
     .word 0x0197f6b3  # and x13, x15, x25
     .word 0x01a7f733  # and x14, x15, x26
-    .word 0x01b7f7b3  # and x15, x15, x27
+    .word 0x23012303  # lw x6, 560(x2)
+    .word 0x0067f7b3  # and x15, x15, x6
     .word 0x0189f833  # and x16, x19, x24
     .word 0x0199f8b3  # and x17, x19, x25
     .word 0x01a9f933  # and x18, x19, x26
-    .word 0x01b9f9b3  # and x19, x19, x27
+    .word 0x23012303  # lw x6, 560(x2)
+    .word 0x0069f9b3  # and x19, x19, x6
     .word 0x030602b3  # mul x5, x12, x16
     .word 0x03368333  # mul x6, x13, x19
     .word 0x0062c2b3  # xor x5, x5, x6
@@ -500,13 +509,12 @@ ghash_blocks:
     .word 0x0062c2b3  # xor x5, x5, x6
     .word 0x03078333  # mul x6, x15, x16
     .word 0x0062c2b3  # xor x5, x5, x6
-    .word 0x01b2fbb3  # and x23, x5, x27
-    .word 0x015a6333  # or x6, x20, x21
-    .word 0x01636333  # or x6, x6, x22
-    .word 0x01736333  # or x6, x6, x23
-    .word 0x00259293  # slli x5, x11, 2
-    .word 0x002282b3  # add x5, x5, x2
-    .word 0x1c62a423  # sw x6, 456(x5)
+    .word 0x23012303  # lw x6, 560(x2)
+    .word 0x0062fbb3  # and x23, x5, x6
+    .word 0x015a62b3  # or x5, x20, x21
+    .word 0x0162e2b3  # or x5, x5, x22
+    .word 0x0172e2b3  # or x5, x5, x23
+    .word 0x1c5da423  # sw x5, 456(x27)
     .word 0x03063a33  # mulhu x20, x12, x16
     .word 0x0336bab3  # mulhu x21, x13, x19
     .word 0x03273b33  # mulhu x22, x14, x18
@@ -544,15 +552,14 @@ ghash_blocks:
     .word 0x00d642b3  # xor x5, x12, x13
     .word 0x00e2c2b3  # xor x5, x5, x14
     .word 0x00f2c2b3  # xor x5, x5, x15
-    .word 0x01b2f633  # and x12, x5, x27
-    .word 0x015a6333  # or x6, x20, x21
-    .word 0x01636333  # or x6, x6, x22
-    .word 0x00c36333  # or x6, x6, x12
-    .word 0x00259293  # slli x5, x11, 2
-    .word 0x002282b3  # add x5, x5, x2
-    .word 0x1e62a623  # sw x6, 492(x5)
-    .word 0xe4dff06f  # jal x0, -436
-    .word 0xe1dff06f  # jal x0, -484
+    .word 0x23012303  # lw x6, 560(x2)
+    .word 0x0062f633  # and x12, x5, x6
+    .word 0x015a62b3  # or x5, x20, x21
+    .word 0x0162e2b3  # or x5, x5, x22
+    .word 0x00c2e2b3  # or x5, x5, x12
+    .word 0x1e5da623  # sw x5, 492(x27)
+    .word 0xe55ff06f  # jal x0, -428
+    .word 0xe25ff06f  # jal x0, -476
     .word 0x1c812283  # lw x5, 456(x2)
     .word 0x1cc12303  # lw x6, 460(x2)
     .word 0x0062c633  # xor x12, x5, x6
@@ -657,17 +664,17 @@ ghash_blocks:
     .word 0x1f812303  # lw x6, 504(x2)
     .word 0x0062c2b3  # xor x5, x5, x6
     .word 0x18512e23  # sw x5, 412(x2)
-    .word 0x22012e23  # sw x0, 572(x2)
+    .word 0x24012023  # sw x0, 576(x2)
     .word 0x00700293  # addi x5, x0, 7
-    .word 0x24512023  # sw x5, 576(x2)
-    .word 0x23c12303  # lw x6, 572(x2)
-    .word 0x24012283  # lw x5, 576(x2)
+    .word 0x24512223  # sw x5, 580(x2)
+    .word 0x24012303  # lw x6, 576(x2)
+    .word 0x24412283  # lw x5, 580(x2)
     .word 0x005332b3  # sltu x5, x6, x5
     .word 0x00029463  # bne x5, x0, 8
     .word 0x0680006f  # jal x0, 104
     .word 0x22612023  # sw x6, 544(x2)
     .word 0x00130313  # addi x6, x6, 1
-    .word 0x22612e23  # sw x6, 572(x2)
+    .word 0x24612023  # sw x6, 576(x2)
     .word 0x00700293  # addi x5, x0, 7
     .word 0x22012303  # lw x6, 544(x2)
     .word 0x406282b3  # sub x5, x5, x6
@@ -693,17 +700,17 @@ ghash_blocks:
     .word 0x18012283  # lw x5, 384(x2)
     .word 0x00129293  # slli x5, x5, 1
     .word 0x18512023  # sw x5, 384(x2)
-    .word 0x22012e23  # sw x0, 572(x2)
+    .word 0x24012023  # sw x0, 576(x2)
     .word 0x00400293  # addi x5, x0, 4
-    .word 0x24512023  # sw x5, 576(x2)
-    .word 0x23c12303  # lw x6, 572(x2)
-    .word 0x24012283  # lw x5, 576(x2)
+    .word 0x24512223  # sw x5, 580(x2)
+    .word 0x24012303  # lw x6, 576(x2)
+    .word 0x24412283  # lw x5, 580(x2)
     .word 0x005332b3  # sltu x5, x6, x5
     .word 0x00029463  # bne x5, x0, 8
     .word 0x0980006f  # jal x0, 152
     .word 0x22612223  # sw x6, 548(x2)
     .word 0x00130313  # addi x6, x6, 1
-    .word 0x22612e23  # sw x6, 572(x2)
+    .word 0x24612023  # sw x6, 576(x2)
     .word 0x22412283  # lw x5, 548(x2)
     .word 0x00229613  # slli x12, x5, 2
     .word 0x00260633  # add x12, x12, x2
@@ -738,17 +745,17 @@ ghash_blocks:
     .word 0x002282b3  # add x5, x5, x2
     .word 0x1862a623  # sw x6, 396(x5)
     .word 0xf5dff06f  # jal x0, -164
-    .word 0x22012e23  # sw x0, 572(x2)
+    .word 0x24012023  # sw x0, 576(x2)
     .word 0x00400293  # addi x5, x0, 4
-    .word 0x24512023  # sw x5, 576(x2)
-    .word 0x23c12303  # lw x6, 572(x2)
-    .word 0x24012283  # lw x5, 576(x2)
+    .word 0x24512223  # sw x5, 580(x2)
+    .word 0x24012303  # lw x6, 576(x2)
+    .word 0x24412283  # lw x5, 580(x2)
     .word 0x005332b3  # sltu x5, x6, x5
     .word 0x00029463  # bne x5, x0, 8
     .word 0x0340006f  # jal x0, 52
     .word 0x22612423  # sw x6, 552(x2)
     .word 0x00130313  # addi x6, x6, 1
-    .word 0x22612e23  # sw x6, 572(x2)
+    .word 0x24612023  # sw x6, 576(x2)
     .word 0x22812283  # lw x5, 552(x2)
     .word 0x22812303  # lw x6, 552(x2)
     .word 0x00231313  # slli x6, x6, 2
@@ -759,17 +766,17 @@ ghash_blocks:
     .word 0x1262aa23  # sw x6, 308(x5)
     .word 0xfc1ff06f  # jal x0, -64
     .word 0xfe0ff06f  # jal x0, -2080
-    .word 0x22012a23  # sw x0, 564(x2)
+    .word 0x22012c23  # sw x0, 568(x2)
     .word 0x01000293  # addi x5, x0, 16
-    .word 0x22512c23  # sw x5, 568(x2)
-    .word 0x23412303  # lw x6, 564(x2)
-    .word 0x23812283  # lw x5, 568(x2)
+    .word 0x22512e23  # sw x5, 572(x2)
+    .word 0x23812303  # lw x6, 568(x2)
+    .word 0x23c12283  # lw x5, 572(x2)
     .word 0x005332b3  # sltu x5, x6, x5
     .word 0x00029463  # bne x5, x0, 8
     .word 0x0540006f  # jal x0, 84
     .word 0x22612623  # sw x6, 556(x2)
     .word 0x00130313  # addi x6, x6, 1
-    .word 0x22612a23  # sw x6, 564(x2)
+    .word 0x22612c23  # sw x6, 568(x2)
     .word 0x22c12283  # lw x5, 556(x2)
     .word 0x00300313  # addi x6, x0, 3
     .word 0x22c12383  # lw x7, 556(x2)

@@ -1,4 +1,4 @@
-# hex_decode: made by factc 1.0.0 function; 98 words, 128 bytes of stack, profile 1
+# hex_decode: made by factc 1.0.0 function; 100 words, 128 bytes of stack, profile 1
     .option push
     .option norvc
     .option norelax
@@ -45,15 +45,15 @@ hex_decode:
     .word 0x00000713  # addi x14, x0, 0
     .word 0x00000793  # addi x15, x0, 0
     .word 0x00000813  # addi x16, x0, 0
+    .word 0x002608b3  # add x17, x12, x2
     .word 0x00100513  # addi x10, x0, 1
     .word 0x00000593  # addi x11, x0, 0
     .word 0x00000613  # addi x12, x0, 0
-    .word 0x002602b3  # add x5, x12, x2
-    .word 0x0002c283  # lbu x5, 0(x5)
+    .word 0x002608b3  # add x17, x12, x2
+    .word 0x0008c283  # lbu x5, 0(x17)
     .word 0xfd028693  # addi x13, x5, -48
     .word 0x0ff6f693  # andi x13, x13, 255
-    .word 0x002602b3  # add x5, x12, x2
-    .word 0x0002c283  # lbu x5, 0(x5)
+    .word 0x0008c283  # lbu x5, 0(x17)
     .word 0x0202e293  # ori x5, x5, 32
     .word 0xf9f28713  # addi x14, x5, -97
     .word 0x0ff77713  # andi x14, x14, 255
@@ -80,9 +80,11 @@ hex_decode:
     .word 0x04628023  # sb x6, 64(x5)
     .word 0x00068593  # addi x11, x13, 0
     .word 0x00160613  # addi x12, x12, 1
+    .word 0x002608b3  # add x17, x12, x2
     .word 0x04063293  # sltiu x5, x12, 64
-    .word 0xf6029ee3  # bne x5, x0, -132
+    .word 0xf80290e3  # bne x5, x0, -128
     .word 0xfff60613  # addi x12, x12, -1
+    .word 0x002608b3  # add x17, x12, x2
     .word 0x06a12023  # sw x10, 96(x2)
     # the result
     .word 0x06012503  # lw x10, 96(x2)

@@ -46,8 +46,10 @@ hex_encode:
     .word 0x00000493  # addi x9, x0, 0
     .word 0x00000513  # addi x10, x0, 0
     .word 0x00000593  # addi x11, x0, 0
+    .word 0x00248633  # add x12, x9, x2
     .word 0x00000413  # addi x8, x0, 0
     .word 0x00141493  # slli x9, x8, 1
+    .word 0x00248633  # add x12, x9, x2
     .word 0x00240533  # add x10, x8, x2
     .word 0x00054503  # lbu x10, 0(x10)
     .word 0x00455593  # srli x11, x10, 4
@@ -62,13 +64,11 @@ hex_encode:
     .word 0x00835313  # srli x6, x6, 8
     .word 0x02737313  # andi x6, x6, 39
     .word 0x40628533  # sub x10, x5, x6
-    .word 0x002482b3  # add x5, x9, x2
-    .word 0x02b28023  # sb x11, 32(x5)
-    .word 0x002482b3  # add x5, x9, x2
-    .word 0x02a280a3  # sb x10, 33(x5)
+    .word 0x02b60023  # sb x11, 32(x12)
+    .word 0x02a600a3  # sb x10, 33(x12)
     .word 0x00140413  # addi x8, x8, 1
     .word 0x02043293  # sltiu x5, x8, 32
-    .word 0xfa0296e3  # bne x5, x0, -84
+    .word 0xfa0298e3  # bne x5, x0, -80
     .word 0xfff40413  # addi x8, x8, -1
     # the result
     .word 0x00000513  # addi x10, x0, 0

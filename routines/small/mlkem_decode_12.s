@@ -1,4 +1,4 @@
-# mlkem_decode_12: made by factc 1.0.0 function; 99 words, 928 bytes of stack, profile 1
+# mlkem_decode_12: made by factc 1.0.0 function; 98 words, 928 bytes of stack, profile 1
     .option push
     .option norvc
     .option norelax
@@ -49,18 +49,21 @@ mlkem_decode_12:
     .word 0x00000613  # addi x12, x0, 0
     .word 0x00000693  # addi x13, x0, 0
     .word 0x00000713  # addi x14, x0, 0
+    .word 0x00248833  # add x16, x9, x2
+    .word 0x00151893  # slli x17, x10, 1
+    .word 0x002888b3  # add x17, x17, x2
     .word 0x000017b7  # lui x15, 0x00001
     .word 0xd0178793  # addi x15, x15, -767
     .word 0x00000413  # addi x8, x0, 0
     .word 0x00300293  # addi x5, x0, 3
     .word 0x028284b3  # mul x9, x5, x8
+    .word 0x00248833  # add x16, x9, x2
     .word 0x00141513  # slli x10, x8, 1
-    .word 0x002486b3  # add x13, x9, x2
-    .word 0x0006c683  # lbu x13, 0(x13)
-    .word 0x002485b3  # add x11, x9, x2
-    .word 0x0015c583  # lbu x11, 1(x11)
-    .word 0x00248633  # add x12, x9, x2
-    .word 0x00264603  # lbu x12, 2(x12)
+    .word 0x00151893  # slli x17, x10, 1
+    .word 0x002888b3  # add x17, x17, x2
+    .word 0x00084683  # lbu x13, 0(x16)
+    .word 0x00184583  # lbu x11, 1(x16)
+    .word 0x00284603  # lbu x12, 2(x16)
     .word 0x00f5f313  # andi x6, x11, 15
     .word 0x00831313  # slli x6, x6, 8
     .word 0x0066e6b3  # or x13, x13, x6
@@ -75,15 +78,11 @@ mlkem_decode_12:
     .word 0x0105d293  # srli x5, x11, 16
     .word 0x00f2f633  # and x12, x5, x15
     .word 0x00c585b3  # add x11, x11, x12
-    .word 0x00151293  # slli x5, x10, 1
-    .word 0x002282b3  # add x5, x5, x2
-    .word 0x18d29023  # sh x13, 384(x5)
-    .word 0x00151293  # slli x5, x10, 1
-    .word 0x002282b3  # add x5, x5, x2
-    .word 0x18b29123  # sh x11, 386(x5)
+    .word 0x18d89023  # sh x13, 384(x17)
+    .word 0x18b89123  # sh x11, 386(x17)
     .word 0x00140413  # addi x8, x8, 1
     .word 0x08043293  # sltiu x5, x8, 128
-    .word 0xf80292e3  # bne x5, x0, -124
+    .word 0xf8029ae3  # bne x5, x0, -108
     .word 0xfff40413  # addi x8, x8, -1
     # the result
     .word 0x00000513  # addi x10, x0, 0

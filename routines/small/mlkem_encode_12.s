@@ -1,4 +1,4 @@
-# mlkem_encode_12: made by factc 1.0.0 function; 83 words, 928 bytes of stack, profile 1
+# mlkem_encode_12: made by factc 1.0.0 function; 82 words, 928 bytes of stack, profile 1
     .option push
     .option norvc
     .option norelax
@@ -45,29 +45,28 @@ mlkem_encode_12:
     .word 0x00000593  # addi x11, x0, 0
     .word 0x00000613  # addi x12, x0, 0
     .word 0x00000693  # addi x13, x0, 0
+    .word 0x00151713  # slli x14, x10, 1
+    .word 0x00270733  # add x14, x14, x2
+    .word 0x002587b3  # add x15, x11, x2
     .word 0x00000493  # addi x9, x0, 0
     .word 0x00149513  # slli x10, x9, 1
+    .word 0x00151713  # slli x14, x10, 1
+    .word 0x00270733  # add x14, x14, x2
     .word 0x009505b3  # add x11, x10, x9
-    .word 0x00151613  # slli x12, x10, 1
-    .word 0x00260633  # add x12, x12, x2
-    .word 0x00065603  # lhu x12, 0(x12)
-    .word 0x00151693  # slli x13, x10, 1
-    .word 0x002686b3  # add x13, x13, x2
-    .word 0x0026d683  # lhu x13, 2(x13)
-    .word 0x002582b3  # add x5, x11, x2
-    .word 0x20c28023  # sb x12, 512(x5)
-    .word 0x00865313  # srli x6, x12, 8
-    .word 0x00f37313  # andi x6, x6, 15
-    .word 0x00469393  # slli x7, x13, 4
-    .word 0x00736333  # or x6, x6, x7
-    .word 0x002582b3  # add x5, x11, x2
-    .word 0x206280a3  # sb x6, 513(x5)
-    .word 0x0046d313  # srli x6, x13, 4
-    .word 0x002582b3  # add x5, x11, x2
-    .word 0x20628123  # sb x6, 514(x5)
+    .word 0x002587b3  # add x15, x11, x2
+    .word 0x00075603  # lhu x12, 0(x14)
+    .word 0x00275683  # lhu x13, 2(x14)
+    .word 0x20c78023  # sb x12, 512(x15)
+    .word 0x00865293  # srli x5, x12, 8
+    .word 0x00f2f293  # andi x5, x5, 15
+    .word 0x00469313  # slli x6, x13, 4
+    .word 0x0062e2b3  # or x5, x5, x6
+    .word 0x205780a3  # sb x5, 513(x15)
+    .word 0x0046d293  # srli x5, x13, 4
+    .word 0x20578123  # sb x5, 514(x15)
     .word 0x00148493  # addi x9, x9, 1
     .word 0x0804b293  # sltiu x5, x9, 128
-    .word 0xfa0296e3  # bne x5, x0, -84
+    .word 0xfa029ee3  # bne x5, x0, -68
     .word 0xfff48493  # addi x9, x9, -1
     # the result
     .word 0x00000513  # addi x10, x0, 0

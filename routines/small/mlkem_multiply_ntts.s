@@ -1,4 +1,4 @@
-# mlkem_multiply_ntts: made by factc 1.0.0 function; 292 words, 1856 bytes of stack, profile 1
+# mlkem_multiply_ntts: made by factc 1.0.0 function; 294 words, 1856 bytes of stack, profile 1
     .option push
     .option norvc
     .option norelax
@@ -19,6 +19,10 @@ mlkem_multiply_ntts:
     .cfi_offset 9, -28
     .word 0x01212423  # sw x18, 8(x2)
     .cfi_offset 18, -24
+    .word 0x01312623  # sw x19, 12(x2)
+    .cfi_offset 19, -20
+    .word 0x01412823  # sw x20, 16(x2)
+    .cfi_offset 20, -16
     # arguments that are needed behind the body
     .word 0x00a12a23  # sw x10, 20(x2)
     .word 0x00b12c23  # sw x11, 24(x2)
@@ -63,6 +67,10 @@ mlkem_multiply_ntts:
     .word 0x00000713  # addi x14, x0, 0
     .word 0x00000793  # addi x15, x0, 0
     .word 0x00000813  # addi x16, x0, 0
+    .word 0x00241993  # slli x19, x8, 2
+    .word 0x002989b3  # add x19, x19, x2
+    .word 0x00151a13  # slli x20, x10, 1
+    .word 0x002a0a33  # add x20, x20, x2
     .word 0x9d7dc8b7  # lui x17, 0x9d7dc
     .word 0xb4188893  # addi x17, x17, -1215
     .word 0x00001937  # lui x18, 0x00001
@@ -224,22 +232,18 @@ mlkem_multiply_ntts:
     .word 0x86a28293  # addi x5, x5, -1942
     .word 0x6e512e23  # sw x5, 1788(x2)
     .word 0x00000413  # addi x8, x0, 0
+    .word 0x00241993  # slli x19, x8, 2
+    .word 0x002989b3  # add x19, x19, x2
     .word 0x00000493  # addi x9, x0, 0
     .word 0x00241293  # slli x5, x8, 2
     .word 0x00149313  # slli x6, x9, 1
     .word 0x00628533  # add x10, x5, x6
-    .word 0x00151593  # slli x11, x10, 1
-    .word 0x002585b3  # add x11, x11, x2
-    .word 0x0005d583  # lhu x11, 0(x11)
-    .word 0x00151613  # slli x12, x10, 1
-    .word 0x00260633  # add x12, x12, x2
-    .word 0x00265603  # lhu x12, 2(x12)
-    .word 0x00151693  # slli x13, x10, 1
-    .word 0x002686b3  # add x13, x13, x2
-    .word 0x2006d683  # lhu x13, 512(x13)
-    .word 0x00151713  # slli x14, x10, 1
-    .word 0x00270733  # add x14, x14, x2
-    .word 0x20275703  # lhu x14, 514(x14)
+    .word 0x00151a13  # slli x20, x10, 1
+    .word 0x002a0a33  # add x20, x20, x2
+    .word 0x000a5583  # lhu x11, 0(x20)
+    .word 0x002a5603  # lhu x12, 2(x20)
+    .word 0x200a5683  # lhu x13, 512(x20)
+    .word 0x202a5703  # lhu x14, 514(x20)
     .word 0x02e607b3  # mul x15, x12, x14
     .word 0x0317b833  # mulhu x16, x15, x17
     .word 0x00b85313  # srli x6, x16, 11
@@ -249,9 +253,7 @@ mlkem_multiply_ntts:
     .word 0x00649463  # bne x9, x6, 8
     .word 0x40f907b3  # sub x15, x18, x15
     .word 0x02d582b3  # mul x5, x11, x13
-    .word 0x00241393  # slli x7, x8, 2
-    .word 0x002383b3  # add x7, x7, x2
-    .word 0x6003a383  # lw x7, 1536(x7)
+    .word 0x6009a383  # lw x7, 1536(x19)
     .word 0x02778333  # mul x6, x15, x7
     .word 0x006287b3  # add x15, x5, x6
     .word 0x0317b833  # mulhu x16, x15, x17
@@ -265,20 +267,20 @@ mlkem_multiply_ntts:
     .word 0x00b5d313  # srli x6, x11, 11
     .word 0x03230333  # mul x6, x6, x18
     .word 0x406787b3  # sub x15, x15, x6
-    .word 0x00151293  # slli x5, x10, 1
-    .word 0x002282b3  # add x5, x5, x2
-    .word 0x41029023  # sh x16, 1024(x5)
-    .word 0x00151293  # slli x5, x10, 1
-    .word 0x002282b3  # add x5, x5, x2
-    .word 0x40f29123  # sh x15, 1026(x5)
+    .word 0x410a1023  # sh x16, 1024(x20)
+    .word 0x40fa1123  # sh x15, 1026(x20)
     .word 0x00148493  # addi x9, x9, 1
     .word 0x0024b293  # sltiu x5, x9, 2
-    .word 0xf40290e3  # bne x5, x0, -192
+    .word 0xf60298e3  # bne x5, x0, -144
     .word 0xfff48493  # addi x9, x9, -1
     .word 0x00140413  # addi x8, x8, 1
+    .word 0x00241993  # slli x19, x8, 2
+    .word 0x002989b3  # add x19, x19, x2
     .word 0x04043293  # sltiu x5, x8, 64
-    .word 0xf20296e3  # bne x5, x0, -212
+    .word 0xf4029ae3  # bne x5, x0, -172
     .word 0xfff40413  # addi x8, x8, -1
+    .word 0x00241993  # slli x19, x8, 2
+    .word 0x002989b3  # add x19, x19, x2
     # the result
     .word 0x00000513  # addi x10, x0, 0
     # parameter 2: the array, back
@@ -299,6 +301,10 @@ mlkem_multiply_ntts:
     .cfi_restore 9
     .word 0x0082a903  # lw x18, 8(x5)
     .cfi_restore 18
+    .word 0x00c2a983  # lw x19, 12(x5)
+    .cfi_restore 19
+    .word 0x0102aa03  # lw x20, 16(x5)
+    .cfi_restore 20
     # the caller's x2
     .word 0x02028293  # addi x5, x5, 32
     .cfi_def_cfa 5, 0

@@ -47,10 +47,14 @@ mlkem_sample_cbd2:
     .word 0x00000593  # addi x11, x0, 0
     .word 0x00000613  # addi x12, x0, 0
     .word 0x00000693  # addi x13, x0, 0
+    .word 0x00151713  # slli x14, x10, 1
+    .word 0x00270733  # add x14, x14, x2
     .word 0x00001437  # lui x8, 0x00001
     .word 0xd0140413  # addi x8, x8, -767
     .word 0x00000493  # addi x9, x0, 0
     .word 0x00149513  # slli x10, x9, 1
+    .word 0x00151713  # slli x14, x10, 1
+    .word 0x00270733  # add x14, x14, x2
     .word 0x002485b3  # add x11, x9, x2
     .word 0x0005c583  # lbu x11, 0(x11)
     .word 0x0555f293  # andi x5, x11, 85
@@ -63,23 +67,19 @@ mlkem_sample_cbd2:
     .word 0x40628633  # sub x12, x5, x6
     .word 0x01065293  # srli x5, x12, 16
     .word 0x0082f6b3  # and x13, x5, x8
-    .word 0x00d60333  # add x6, x12, x13
-    .word 0x00151293  # slli x5, x10, 1
-    .word 0x002282b3  # add x5, x5, x2
-    .word 0x08629023  # sh x6, 128(x5)
+    .word 0x00d602b3  # add x5, x12, x13
+    .word 0x08571023  # sh x5, 128(x14)
     .word 0x0045d293  # srli x5, x11, 4
     .word 0x0032f293  # andi x5, x5, 3
     .word 0x0065d313  # srli x6, x11, 6
     .word 0x406285b3  # sub x11, x5, x6
     .word 0x0105d293  # srli x5, x11, 16
     .word 0x0082f633  # and x12, x5, x8
-    .word 0x00c58333  # add x6, x11, x12
-    .word 0x00151293  # slli x5, x10, 1
-    .word 0x002282b3  # add x5, x5, x2
-    .word 0x08629123  # sh x6, 130(x5)
+    .word 0x00c582b3  # add x5, x11, x12
+    .word 0x08571123  # sh x5, 130(x14)
     .word 0x00148493  # addi x9, x9, 1
     .word 0x0804b293  # sltiu x5, x9, 128
-    .word 0xf80296e3  # bne x5, x0, -116
+    .word 0xf8029ae3  # bne x5, x0, -108
     .word 0xfff48493  # addi x9, x9, -1
     # the result
     .word 0x00000513  # addi x10, x0, 0

@@ -1,4 +1,4 @@
-# p256_multiply: made by factc 1.0.0 function; 315 words, 400 bytes of stack, profile 1
+# p256_multiply: made by factc 1.0.0 function; 333 words, 416 bytes of stack, profile 1
     .option push
     .option norvc
     .option norelax
@@ -10,30 +10,38 @@
 p256_multiply:
     .cfi_startproc
     # room above the frame
-    .word 0xfd010113  # addi x2, x2, -48
-    .cfi_def_cfa_offset 48
+    .word 0xfc010113  # addi x2, x2, -64
+    .cfi_def_cfa_offset 64
     # the caller's registers
     .word 0x00812023  # sw x8, 0(x2)
-    .cfi_offset 8, -48
+    .cfi_offset 8, -64
     .word 0x01212223  # sw x18, 4(x2)
-    .cfi_offset 18, -44
+    .cfi_offset 18, -60
     .word 0x01312423  # sw x19, 8(x2)
-    .cfi_offset 19, -40
+    .cfi_offset 19, -56
     .word 0x01412623  # sw x20, 12(x2)
-    .cfi_offset 20, -36
+    .cfi_offset 20, -52
     .word 0x01512823  # sw x21, 16(x2)
-    .cfi_offset 21, -32
+    .cfi_offset 21, -48
     .word 0x01612a23  # sw x22, 20(x2)
-    .cfi_offset 22, -28
+    .cfi_offset 22, -44
     .word 0x01712c23  # sw x23, 24(x2)
-    .cfi_offset 23, -24
+    .cfi_offset 23, -40
+    .word 0x01812e23  # sw x24, 28(x2)
+    .cfi_offset 24, -36
+    .word 0x03912023  # sw x25, 32(x2)
+    .cfi_offset 25, -32
+    .word 0x03a12223  # sw x26, 36(x2)
+    .cfi_offset 26, -28
+    .word 0x03b12423  # sw x27, 40(x2)
+    .cfi_offset 27, -24
     # arguments that are needed behind the body
-    .word 0x02a12223  # sw x10, 36(x2)
-    .word 0x02b12423  # sw x11, 40(x2)
-    .word 0x02c12623  # sw x12, 44(x2)
+    .word 0x02a12a23  # sw x10, 52(x2)
+    .word 0x02b12c23  # sw x11, 56(x2)
+    .word 0x02c12e23  # sw x12, 60(x2)
     # the frame's base
     .word 0xea010113  # addi x2, x2, -352
-    .cfi_def_cfa 2, 400
+    .cfi_def_cfa 2, 416
     # parameter 0: an array
     .word 0x00050293  # addi x5, x10, 0
     .word 0x00010313  # addi x6, x2, 0
@@ -63,6 +71,14 @@ p256_multiply:
     .word 0x00000a13  # addi x20, x0, 0
     .word 0x00000a93  # addi x21, x0, 0
     .word 0x00000b93  # addi x23, x0, 0
+    .word 0x00251c13  # slli x24, x10, 2
+    .word 0x002c0c33  # add x24, x24, x2
+    .word 0x00299c93  # slli x25, x19, 2
+    .word 0x002c8cb3  # add x25, x25, x2
+    .word 0x002a1d13  # slli x26, x20, 2
+    .word 0x002d0d33  # add x26, x26, x2
+    .word 0x002b9d93  # slli x27, x23, 2
+    .word 0x002d8db3  # add x27, x27, x2
     .word 0x06000313  # addi x6, x0, 96
     .word 0x00230333  # add x6, x6, x2
     .word 0x02000393  # addi x7, x0, 32
@@ -84,22 +100,20 @@ p256_multiply:
     .word 0x00430313  # addi x6, x6, 4
     .word 0xfedff06f  # jal x0, -20
     .word 0x00000513  # addi x10, x0, 0
-    .word 0x00251313  # slli x6, x10, 2
-    .word 0x00230333  # add x6, x6, x2
-    .word 0x00032303  # lw x6, 0(x6)
-    .word 0x00251293  # slli x5, x10, 2
-    .word 0x002282b3  # add x5, x5, x2
-    .word 0x0662a023  # sw x6, 96(x5)
-    .word 0x00251313  # slli x6, x10, 2
-    .word 0x00230333  # add x6, x6, x2
-    .word 0x02032303  # lw x6, 32(x6)
-    .word 0x00251293  # slli x5, x10, 2
-    .word 0x002282b3  # add x5, x5, x2
-    .word 0x0862a023  # sw x6, 128(x5)
+    .word 0x00251c13  # slli x24, x10, 2
+    .word 0x002c0c33  # add x24, x24, x2
+    .word 0x000c2283  # lw x5, 0(x24)
+    .word 0x065c2023  # sw x5, 96(x24)
+    .word 0x020c2283  # lw x5, 32(x24)
+    .word 0x085c2023  # sw x5, 128(x24)
     .word 0x00150513  # addi x10, x10, 1
+    .word 0x00251c13  # slli x24, x10, 2
+    .word 0x002c0c33  # add x24, x24, x2
     .word 0x00853293  # sltiu x5, x10, 8
-    .word 0xfc0294e3  # bne x5, x0, -56
+    .word 0xfe0290e3  # bne x5, x0, -32
     .word 0xfff50513  # addi x10, x10, -1
+    .word 0x00251c13  # slli x24, x10, 2
+    .word 0x002c0c33  # add x24, x24, x2
     .word 0x00000593  # addi x11, x0, 0
     .word 0x00000613  # addi x12, x0, 0
     .word 0x00000693  # addi x13, x0, 0
@@ -169,9 +183,9 @@ p256_multiply:
     .word 0x00430313  # addi x6, x6, 4
     .word 0xfedff06f  # jal x0, -20
     .word 0x00000993  # addi x19, x0, 0
-    .word 0x00299293  # slli x5, x19, 2
-    .word 0x002282b3  # add x5, x5, x2
-    .word 0x0a02a283  # lw x5, 160(x5)
+    .word 0x00299c93  # slli x25, x19, 2
+    .word 0x002c8cb3  # add x25, x25, x2
+    .word 0x0a0ca283  # lw x5, 160(x25)
     .word 0x00b28933  # add x18, x5, x11
     .word 0x00b93833  # sltu x16, x18, x11
     .word 0xffd98293  # addi x5, x19, -3
@@ -234,9 +248,13 @@ p256_multiply:
     .word 0x1122a023  # sw x18, 256(x5)
     .word 0x00080593  # addi x11, x16, 0
     .word 0x00198993  # addi x19, x19, 1
+    .word 0x00299c93  # slli x25, x19, 2
+    .word 0x002c8cb3  # add x25, x25, x2
     .word 0x0109b293  # sltiu x5, x19, 16
     .word 0xee029ce3  # bne x5, x0, -264
     .word 0xfff98993  # addi x19, x19, -1
+    .word 0x00299c93  # slli x25, x19, 2
+    .word 0x002c8cb3  # add x25, x25, x2
     .word 0x12000313  # addi x6, x0, 288
     .word 0x00230333  # add x6, x6, x2
     .word 0x02000393  # addi x7, x0, 32
@@ -249,6 +267,8 @@ p256_multiply:
     .word 0xfedff06f  # jal x0, -20
     .word 0x00000913  # addi x18, x0, 0
     .word 0x00000a13  # addi x20, x0, 0
+    .word 0x002a1d13  # slli x26, x20, 2
+    .word 0x002d0d33  # add x26, x26, x2
     .word 0x003a3293  # sltiu x5, x20, 3
     .word 0xff9a0313  # addi x6, x20, -7
     .word 0x00133313  # sltiu x6, x6, 1
@@ -264,47 +284,45 @@ p256_multiply:
     .word 0x00734333  # xor x6, x6, x7
     .word 0x00537333  # and x6, x6, x5
     .word 0x0063cab3  # xor x21, x7, x6
-    .word 0x002a1293  # slli x5, x20, 2
-    .word 0x002282b3  # add x5, x5, x2
-    .word 0x1002a283  # lw x5, 256(x5)
+    .word 0x100d2283  # lw x5, 256(x26)
     .word 0x41528833  # sub x16, x5, x21
-    .word 0x41280333  # sub x6, x16, x18
-    .word 0x002a1293  # slli x5, x20, 2
-    .word 0x002282b3  # add x5, x5, x2
-    .word 0x1262a023  # sw x6, 288(x5)
-    .word 0x002a1293  # slli x5, x20, 2
-    .word 0x002282b3  # add x5, x5, x2
-    .word 0x1002a283  # lw x5, 256(x5)
+    .word 0x412802b3  # sub x5, x16, x18
+    .word 0x125d2023  # sw x5, 288(x26)
+    .word 0x100d2283  # lw x5, 256(x26)
     .word 0x0152b2b3  # sltu x5, x5, x21
     .word 0x01283333  # sltu x6, x16, x18
     .word 0x00628933  # add x18, x5, x6
     .word 0x001a0a13  # addi x20, x20, 1
+    .word 0x002a1d13  # slli x26, x20, 2
+    .word 0x002d0d33  # add x26, x26, x2
     .word 0x008a3293  # sltiu x5, x20, 8
-    .word 0xf80292e3  # bne x5, x0, -124
+    .word 0xf8029ae3  # bne x5, x0, -108
     .word 0xfffa0a13  # addi x20, x20, -1
+    .word 0x002a1d13  # slli x26, x20, 2
+    .word 0x002d0d33  # add x26, x26, x2
     .word 0x0125bb33  # sltu x22, x11, x18
     .word 0x00000b93  # addi x23, x0, 0
-    .word 0x002b9393  # slli x7, x23, 2
-    .word 0x002383b3  # add x7, x7, x2
-    .word 0x1003a383  # lw x7, 256(x7)
-    .word 0x002b9413  # slli x8, x23, 2
-    .word 0x00240433  # add x8, x8, x2
-    .word 0x12042403  # lw x8, 288(x8)
-    .word 0x41600333  # sub x6, x0, x22
-    .word 0x0083c3b3  # xor x7, x7, x8
-    .word 0x0063f3b3  # and x7, x7, x6
-    .word 0x00744333  # xor x6, x8, x7
-    .word 0x002b9293  # slli x5, x23, 2
-    .word 0x002282b3  # add x5, x5, x2
-    .word 0x0462a023  # sw x6, 64(x5)
+    .word 0x002b9d93  # slli x27, x23, 2
+    .word 0x002d8db3  # add x27, x27, x2
+    .word 0x100da303  # lw x6, 256(x27)
+    .word 0x120da383  # lw x7, 288(x27)
+    .word 0x416002b3  # sub x5, x0, x22
+    .word 0x00734333  # xor x6, x6, x7
+    .word 0x00537333  # and x6, x6, x5
+    .word 0x0063c2b3  # xor x5, x7, x6
+    .word 0x045da023  # sw x5, 64(x27)
     .word 0x001b8b93  # addi x23, x23, 1
+    .word 0x002b9d93  # slli x27, x23, 2
+    .word 0x002d8db3  # add x27, x27, x2
     .word 0x008bb293  # sltiu x5, x23, 8
-    .word 0xfc0292e3  # bne x5, x0, -60
+    .word 0xfc029ae3  # bne x5, x0, -44
     .word 0xfffb8b93  # addi x23, x23, -1
+    .word 0x002b9d93  # slli x27, x23, 2
+    .word 0x002d8db3  # add x27, x27, x2
     # the result
     .word 0x00000513  # addi x10, x0, 0
     # parameter 2: the array, back
-    .word 0x18c12283  # lw x5, 396(x2)
+    .word 0x19c12283  # lw x5, 412(x2)
     .word 0x04010313  # addi x6, x2, 64
     .word 0x02028393  # addi x7, x5, 32
     .word 0x00032e03  # lw x28, 0(x6)
@@ -329,8 +347,16 @@ p256_multiply:
     .cfi_restore 22
     .word 0x0182ab83  # lw x23, 24(x5)
     .cfi_restore 23
+    .word 0x01c2ac03  # lw x24, 28(x5)
+    .cfi_restore 24
+    .word 0x0202ac83  # lw x25, 32(x5)
+    .cfi_restore 25
+    .word 0x0242ad03  # lw x26, 36(x5)
+    .cfi_restore 26
+    .word 0x0282ad83  # lw x27, 40(x5)
+    .cfi_restore 27
     # the caller's x2
-    .word 0x03028293  # addi x5, x5, 48
+    .word 0x04028293  # addi x5, x5, 64
     .cfi_def_cfa 5, 0
     # all the room, wiped upward
     .word 0x00012023  # sw x0, 0(x2)

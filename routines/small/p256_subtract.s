@@ -1,4 +1,4 @@
-# p256_subtract: made by factc 1.0.0 function; 132 words, 176 bytes of stack, profile 1
+# p256_subtract: made by factc 1.0.0 function; 138 words, 176 bytes of stack, profile 1
     .option push
     .option norvc
     .option norelax
@@ -17,6 +17,10 @@ p256_subtract:
     .cfi_offset 8, -32
     .word 0x00912223  # sw x9, 4(x2)
     .cfi_offset 9, -28
+    .word 0x01212423  # sw x18, 8(x2)
+    .cfi_offset 18, -24
+    .word 0x01312623  # sw x19, 12(x2)
+    .cfi_offset 19, -20
     # arguments that are needed behind the body
     .word 0x00a12a23  # sw x10, 20(x2)
     .word 0x00b12c23  # sw x11, 24(x2)
@@ -48,6 +52,10 @@ p256_subtract:
     .word 0x00000793  # addi x15, x0, 0
     .word 0x00000813  # addi x16, x0, 0
     .word 0x00000893  # addi x17, x0, 0
+    .word 0x00261913  # slli x18, x12, 2
+    .word 0x00290933  # add x18, x18, x2
+    .word 0x00279993  # slli x19, x15, 2
+    .word 0x002989b3  # add x19, x19, x2
     .word 0x06000313  # addi x6, x0, 96
     .word 0x00230333  # add x6, x6, x2
     .word 0x02000393  # addi x7, x0, 32
@@ -60,33 +68,31 @@ p256_subtract:
     .word 0xfedff06f  # jal x0, -20
     .word 0x00000593  # addi x11, x0, 0
     .word 0x00000613  # addi x12, x0, 0
-    .word 0x00261293  # slli x5, x12, 2
-    .word 0x002282b3  # add x5, x5, x2
-    .word 0x0002a283  # lw x5, 0(x5)
-    .word 0x00261313  # slli x6, x12, 2
-    .word 0x00230333  # add x6, x6, x2
-    .word 0x02032303  # lw x6, 32(x6)
+    .word 0x00261913  # slli x18, x12, 2
+    .word 0x00290933  # add x18, x18, x2
+    .word 0x00092283  # lw x5, 0(x18)
+    .word 0x02092303  # lw x6, 32(x18)
     .word 0x406286b3  # sub x13, x5, x6
-    .word 0x40b68333  # sub x6, x13, x11
-    .word 0x00261293  # slli x5, x12, 2
-    .word 0x002282b3  # add x5, x5, x2
-    .word 0x0662a023  # sw x6, 96(x5)
-    .word 0x00261293  # slli x5, x12, 2
-    .word 0x002282b3  # add x5, x5, x2
-    .word 0x0002a283  # lw x5, 0(x5)
-    .word 0x00261313  # slli x6, x12, 2
-    .word 0x00230333  # add x6, x6, x2
-    .word 0x02032303  # lw x6, 32(x6)
+    .word 0x40b682b3  # sub x5, x13, x11
+    .word 0x06592023  # sw x5, 96(x18)
+    .word 0x00092283  # lw x5, 0(x18)
+    .word 0x02092303  # lw x6, 32(x18)
     .word 0x0062b2b3  # sltu x5, x5, x6
     .word 0x00b6b333  # sltu x6, x13, x11
     .word 0x006285b3  # add x11, x5, x6
     .word 0x00160613  # addi x12, x12, 1
+    .word 0x00261913  # slli x18, x12, 2
+    .word 0x00290933  # add x18, x18, x2
     .word 0x00863293  # sltiu x5, x12, 8
-    .word 0xfa0294e3  # bne x5, x0, -88
+    .word 0xfc0294e3  # bne x5, x0, -56
     .word 0xfff60613  # addi x12, x12, -1
+    .word 0x00261913  # slli x18, x12, 2
+    .word 0x00290933  # add x18, x18, x2
     .word 0x40b00733  # sub x14, x0, x11
     .word 0x00000593  # addi x11, x0, 0
     .word 0x00000793  # addi x15, x0, 0
+    .word 0x00279993  # slli x19, x15, 2
+    .word 0x002989b3  # add x19, x19, x2
     .word 0x0037b313  # sltiu x6, x15, 3
     .word 0xff978393  # addi x7, x15, -7
     .word 0x0013b393  # sltiu x7, x7, 1
@@ -103,21 +109,21 @@ p256_subtract:
     .word 0x0063f3b3  # and x7, x7, x6
     .word 0x00744333  # xor x6, x8, x7
     .word 0x006776b3  # and x13, x14, x6
-    .word 0x00279293  # slli x5, x15, 2
-    .word 0x002282b3  # add x5, x5, x2
-    .word 0x0602a283  # lw x5, 96(x5)
+    .word 0x0609a283  # lw x5, 96(x19)
     .word 0x00d28833  # add x16, x5, x13
     .word 0x00b808b3  # add x17, x16, x11
     .word 0x00d832b3  # sltu x5, x16, x13
     .word 0x00b8b333  # sltu x6, x17, x11
     .word 0x006285b3  # add x11, x5, x6
-    .word 0x00279293  # slli x5, x15, 2
-    .word 0x002282b3  # add x5, x5, x2
-    .word 0x0512a023  # sw x17, 64(x5)
+    .word 0x0519a023  # sw x17, 64(x19)
     .word 0x00178793  # addi x15, x15, 1
+    .word 0x00279993  # slli x19, x15, 2
+    .word 0x002989b3  # add x19, x19, x2
     .word 0x0087b293  # sltiu x5, x15, 8
-    .word 0xf80296e3  # bne x5, x0, -116
+    .word 0xf8029ae3  # bne x5, x0, -108
     .word 0xfff78793  # addi x15, x15, -1
+    .word 0x00279993  # slli x19, x15, 2
+    .word 0x002989b3  # add x19, x19, x2
     # the result
     .word 0x00000513  # addi x10, x0, 0
     # parameter 2: the array, back
@@ -136,6 +142,10 @@ p256_subtract:
     .cfi_restore 8
     .word 0x0042a483  # lw x9, 4(x5)
     .cfi_restore 9
+    .word 0x0082a903  # lw x18, 8(x5)
+    .cfi_restore 18
+    .word 0x00c2a983  # lw x19, 12(x5)
+    .cfi_restore 19
     # the caller's x2
     .word 0x02028293  # addi x5, x5, 32
     .cfi_def_cfa 5, 0

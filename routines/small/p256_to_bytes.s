@@ -1,4 +1,4 @@
-# p256_to_bytes: made by factc 1.0.0 function; 362 words, 880 bytes of stack, profile 1
+# p256_to_bytes: made by factc 1.0.0 function; 371 words, 896 bytes of stack, profile 1
     .option push
     .option norvc
     .option norelax
@@ -10,35 +10,39 @@
 p256_to_bytes:
     .cfi_startproc
     # room above the frame
-    .word 0xfd010113  # addi x2, x2, -48
-    .cfi_def_cfa_offset 48
+    .word 0xfc010113  # addi x2, x2, -64
+    .cfi_def_cfa_offset 64
     # the caller's registers
     .word 0x00812023  # sw x8, 0(x2)
-    .cfi_offset 8, -48
+    .cfi_offset 8, -64
     .word 0x01212223  # sw x18, 4(x2)
-    .cfi_offset 18, -44
+    .cfi_offset 18, -60
     .word 0x01312423  # sw x19, 8(x2)
-    .cfi_offset 19, -40
+    .cfi_offset 19, -56
     .word 0x01412623  # sw x20, 12(x2)
-    .cfi_offset 20, -36
+    .cfi_offset 20, -52
     .word 0x01512823  # sw x21, 16(x2)
-    .cfi_offset 21, -32
+    .cfi_offset 21, -48
     .word 0x01612a23  # sw x22, 20(x2)
-    .cfi_offset 22, -28
+    .cfi_offset 22, -44
     .word 0x01712c23  # sw x23, 24(x2)
-    .cfi_offset 23, -24
+    .cfi_offset 23, -40
     .word 0x01812e23  # sw x24, 28(x2)
-    .cfi_offset 24, -20
+    .cfi_offset 24, -36
     .word 0x03912023  # sw x25, 32(x2)
-    .cfi_offset 25, -16
+    .cfi_offset 25, -32
     .word 0x03a12223  # sw x26, 36(x2)
-    .cfi_offset 26, -12
+    .cfi_offset 26, -28
+    .word 0x03b12423  # sw x27, 40(x2)
+    .cfi_offset 27, -24
     # arguments that are needed behind the body
-    .word 0x02a12423  # sw x10, 40(x2)
-    .word 0x02b12623  # sw x11, 44(x2)
+    .word 0x02a12c23  # sw x10, 56(x2)
+    .word 0x02b12e23  # sw x11, 60(x2)
     # the frame's base
     .word 0xcc010113  # addi x2, x2, -832
-    .cfi_def_cfa 2, 880
+    .cfi_def_cfa 2, 896
+    # the frame's word at 800, zeroed
+    .word 0x32012023  # sw x0, 800(x2)
     # parameter 0: an array
     .word 0x00050293  # addi x5, x10, 0
     .word 0x00010313  # addi x6, x2, 0
@@ -59,9 +63,13 @@ p256_to_bytes:
     .word 0x00000a13  # addi x20, x0, 0
     .word 0x00000a93  # addi x21, x0, 0
     .word 0x00000b13  # addi x22, x0, 0
+    .word 0x00000b93  # addi x23, x0, 0
     .word 0x00000c13  # addi x24, x0, 0
     .word 0x00000c93  # addi x25, x0, 0
-    .word 0x00000d13  # addi x26, x0, 0
+    .word 0x00259d13  # slli x26, x11, 2
+    .word 0x002d0d33  # add x26, x26, x2
+    .word 0x002a9d93  # slli x27, x21, 2
+    .word 0x002d8db3  # add x27, x27, x2
     .word 0x04000313  # addi x6, x0, 64
     .word 0x00230333  # add x6, x6, x2
     .word 0x20000393  # addi x7, x0, 512
@@ -106,23 +114,23 @@ p256_to_bytes:
     .word 0x00430313  # addi x6, x6, 4
     .word 0xfedff06f  # jal x0, -20
     .word 0x00000593  # addi x11, x0, 0
-    .word 0x00259313  # slli x6, x11, 2
-    .word 0x00230333  # add x6, x6, x2
-    .word 0x04032303  # lw x6, 64(x6)
-    .word 0x00259293  # slli x5, x11, 2
+    .word 0x00259d13  # slli x26, x11, 2
+    .word 0x002d0d33  # add x26, x26, x2
+    .word 0x040d2283  # lw x5, 64(x26)
+    .word 0x245d2023  # sw x5, 576(x26)
+    .word 0x00858293  # addi x5, x11, 8
+    .word 0x00229293  # slli x5, x5, 2
     .word 0x002282b3  # add x5, x5, x2
-    .word 0x2462a023  # sw x6, 576(x5)
-    .word 0x00858313  # addi x6, x11, 8
-    .word 0x00231313  # slli x6, x6, 2
-    .word 0x00230333  # add x6, x6, x2
-    .word 0x04032303  # lw x6, 64(x6)
-    .word 0x00259293  # slli x5, x11, 2
-    .word 0x002282b3  # add x5, x5, x2
-    .word 0x2662a023  # sw x6, 608(x5)
+    .word 0x0402a283  # lw x5, 64(x5)
+    .word 0x265d2023  # sw x5, 608(x26)
     .word 0x00158593  # addi x11, x11, 1
+    .word 0x00259d13  # slli x26, x11, 2
+    .word 0x002d0d33  # add x26, x26, x2
     .word 0x0085b293  # sltiu x5, x11, 8
-    .word 0xfc0292e3  # bne x5, x0, -60
+    .word 0xfc029ae3  # bne x5, x0, -44
     .word 0xfff58593  # addi x11, x11, -1
+    .word 0x00259d13  # slli x26, x11, 2
+    .word 0x002d0d33  # add x26, x26, x2
     .word 0x00000613  # addi x12, x0, 0
     .word 0x00000693  # addi x13, x0, 0
     .word 0x00000713  # addi x14, x0, 0
@@ -272,6 +280,8 @@ p256_to_bytes:
     .word 0xfedff06f  # jal x0, -20
     .word 0x00000993  # addi x19, x0, 0
     .word 0x00000a93  # addi x21, x0, 0
+    .word 0x002a9d93  # slli x27, x21, 2
+    .word 0x002d8db3  # add x27, x27, x2
     .word 0x003ab293  # sltiu x5, x21, 3
     .word 0xff9a8313  # addi x6, x21, -7
     .word 0x00133313  # sltiu x6, x6, 1
@@ -287,70 +297,70 @@ p256_to_bytes:
     .word 0x00734333  # xor x6, x6, x7
     .word 0x00537333  # and x6, x6, x5
     .word 0x0063cb33  # xor x22, x7, x6
-    .word 0x002a9293  # slli x5, x21, 2
-    .word 0x002282b3  # add x5, x5, x2
-    .word 0x2e02a283  # lw x5, 736(x5)
+    .word 0x2e0da283  # lw x5, 736(x27)
     .word 0x416288b3  # sub x17, x5, x22
-    .word 0x41388333  # sub x6, x17, x19
-    .word 0x002a9293  # slli x5, x21, 2
-    .word 0x002282b3  # add x5, x5, x2
-    .word 0x3062a023  # sw x6, 768(x5)
-    .word 0x002a9293  # slli x5, x21, 2
-    .word 0x002282b3  # add x5, x5, x2
-    .word 0x2e02a283  # lw x5, 736(x5)
+    .word 0x413882b3  # sub x5, x17, x19
+    .word 0x305da023  # sw x5, 768(x27)
+    .word 0x2e0da283  # lw x5, 736(x27)
     .word 0x0162b2b3  # sltu x5, x5, x22
     .word 0x0138b333  # sltu x6, x17, x19
     .word 0x006289b3  # add x19, x5, x6
     .word 0x001a8a93  # addi x21, x21, 1
+    .word 0x002a9d93  # slli x27, x21, 2
+    .word 0x002d8db3  # add x27, x27, x2
     .word 0x008ab293  # sltiu x5, x21, 8
-    .word 0xf80292e3  # bne x5, x0, -124
+    .word 0xf8029ae3  # bne x5, x0, -108
     .word 0xfffa8a93  # addi x21, x21, -1
-    .word 0x01363bb3  # sltu x23, x12, x19
-    .word 0x00000c13  # addi x24, x0, 0
-    .word 0x010c0293  # addi x5, x24, 16
-    .word 0x002c1393  # slli x7, x24, 2
+    .word 0x002a9d93  # slli x27, x21, 2
+    .word 0x002d8db3  # add x27, x27, x2
+    .word 0x013632b3  # sltu x5, x12, x19
+    .word 0x32512023  # sw x5, 800(x2)
+    .word 0x00000b93  # addi x23, x0, 0
+    .word 0x010b8293  # addi x5, x23, 16
+    .word 0x32012303  # lw x6, 800(x2)
+    .word 0x002b9393  # slli x7, x23, 2
     .word 0x002383b3  # add x7, x7, x2
     .word 0x2e03a383  # lw x7, 736(x7)
-    .word 0x002c1413  # slli x8, x24, 2
+    .word 0x002b9413  # slli x8, x23, 2
     .word 0x00240433  # add x8, x8, x2
     .word 0x30042403  # lw x8, 768(x8)
-    .word 0x41700333  # sub x6, x0, x23
+    .word 0x40600333  # sub x6, x0, x6
     .word 0x0083c3b3  # xor x7, x7, x8
     .word 0x0063f3b3  # and x7, x7, x6
     .word 0x00744333  # xor x6, x8, x7
     .word 0x00229293  # slli x5, x5, 2
     .word 0x002282b3  # add x5, x5, x2
     .word 0x0462a023  # sw x6, 64(x5)
-    .word 0x001c0c13  # addi x24, x24, 1
-    .word 0x008c3293  # sltiu x5, x24, 8
-    .word 0xfc0290e3  # bne x5, x0, -64
-    .word 0xfffc0c13  # addi x24, x24, -1
+    .word 0x001b8b93  # addi x23, x23, 1
+    .word 0x008bb293  # sltiu x5, x23, 8
+    .word 0xfa029ee3  # bne x5, x0, -68
+    .word 0xfffb8b93  # addi x23, x23, -1
+    .word 0x00000c13  # addi x24, x0, 0
     .word 0x00000c93  # addi x25, x0, 0
-    .word 0x00000d13  # addi x26, x0, 0
     .word 0x01f00293  # addi x5, x0, 31
-    .word 0x002c9313  # slli x6, x25, 2
+    .word 0x002c1313  # slli x6, x24, 2
     .word 0x406282b3  # sub x5, x5, x6
-    .word 0x41a282b3  # sub x5, x5, x26
-    .word 0x010c8313  # addi x6, x25, 16
+    .word 0x419282b3  # sub x5, x5, x25
+    .word 0x010c0313  # addi x6, x24, 16
     .word 0x00231313  # slli x6, x6, 2
     .word 0x00230333  # add x6, x6, x2
     .word 0x04032303  # lw x6, 64(x6)
-    .word 0x003d1393  # slli x7, x26, 3
+    .word 0x003c9393  # slli x7, x25, 3
     .word 0x00735333  # srl x6, x6, x7
     .word 0x002282b3  # add x5, x5, x2
     .word 0x02628023  # sb x6, 32(x5)
-    .word 0x001d0d13  # addi x26, x26, 1
-    .word 0x004d3293  # sltiu x5, x26, 4
-    .word 0xfc0294e3  # bne x5, x0, -56
-    .word 0xfffd0d13  # addi x26, x26, -1
     .word 0x001c8c93  # addi x25, x25, 1
-    .word 0x008cb293  # sltiu x5, x25, 8
-    .word 0xfa029ae3  # bne x5, x0, -76
+    .word 0x004cb293  # sltiu x5, x25, 4
+    .word 0xfc0294e3  # bne x5, x0, -56
     .word 0xfffc8c93  # addi x25, x25, -1
+    .word 0x001c0c13  # addi x24, x24, 1
+    .word 0x008c3293  # sltiu x5, x24, 8
+    .word 0xfa029ae3  # bne x5, x0, -76
+    .word 0xfffc0c13  # addi x24, x24, -1
     # the result
     .word 0x00000513  # addi x10, x0, 0
     # parameter 1: the array, back
-    .word 0x36c12283  # lw x5, 876(x2)
+    .word 0x37c12283  # lw x5, 892(x2)
     .word 0x02010313  # addi x6, x2, 32
     .word 0x02028393  # addi x7, x5, 32
     .word 0x00034e03  # lbu x28, 0(x6)
@@ -381,8 +391,10 @@ p256_to_bytes:
     .cfi_restore 25
     .word 0x0242ad03  # lw x26, 36(x5)
     .cfi_restore 26
+    .word 0x0282ad83  # lw x27, 40(x5)
+    .cfi_restore 27
     # the caller's x2
-    .word 0x03028293  # addi x5, x5, 48
+    .word 0x04028293  # addi x5, x5, 64
     .cfi_def_cfa 5, 0
     # all the room, wiped upward
     .word 0x00012023  # sw x0, 0(x2)

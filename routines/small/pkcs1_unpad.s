@@ -1,4 +1,4 @@
-# pkcs1_unpad: made by factc 1.0.0 function; 249 words, 304 bytes of stack, profile 1
+# pkcs1_unpad: made by factc 1.0.0 function; 258 words, 320 bytes of stack, profile 1
     .option push
     .option norvc
     .option norelax
@@ -10,27 +10,33 @@
 pkcs1_unpad:
     .cfi_startproc
     # room above the frame
-    .word 0xfe010113  # addi x2, x2, -32
-    .cfi_def_cfa_offset 32
+    .word 0xfd010113  # addi x2, x2, -48
+    .cfi_def_cfa_offset 48
     # the caller's registers
     .word 0x00812023  # sw x8, 0(x2)
-    .cfi_offset 8, -32
+    .cfi_offset 8, -48
     .word 0x00912223  # sw x9, 4(x2)
-    .cfi_offset 9, -28
+    .cfi_offset 9, -44
     .word 0x01212423  # sw x18, 8(x2)
-    .cfi_offset 18, -24
+    .cfi_offset 18, -40
     .word 0x01312623  # sw x19, 12(x2)
-    .cfi_offset 19, -20
+    .cfi_offset 19, -36
     .word 0x01412823  # sw x20, 16(x2)
-    .cfi_offset 20, -16
+    .cfi_offset 20, -32
     .word 0x01512a23  # sw x21, 20(x2)
-    .cfi_offset 21, -12
+    .cfi_offset 21, -28
+    .word 0x01612c23  # sw x22, 24(x2)
+    .cfi_offset 22, -24
+    .word 0x01712e23  # sw x23, 28(x2)
+    .cfi_offset 23, -20
+    .word 0x03812023  # sw x24, 32(x2)
+    .cfi_offset 24, -16
     # arguments that are needed behind the body
-    .word 0x00a12c23  # sw x10, 24(x2)
-    .word 0x00b12e23  # sw x11, 28(x2)
+    .word 0x02a12423  # sw x10, 40(x2)
+    .word 0x02b12623  # sw x11, 44(x2)
     # the frame's base
     .word 0xef010113  # addi x2, x2, -272
-    .cfi_def_cfa 2, 304
+    .cfi_def_cfa 2, 320
     # parameter 0: an array
     .word 0x00050293  # addi x5, x10, 0
     .word 0x00010313  # addi x6, x2, 0
@@ -60,6 +66,11 @@ pkcs1_unpad:
     .word 0x00000993  # addi x19, x0, 0
     .word 0x00000a13  # addi x20, x0, 0
     .word 0x00000a93  # addi x21, x0, 0
+    .word 0x00268b33  # add x22, x13, x2
+    .word 0x00281b93  # slli x23, x16, 2
+    .word 0x002b8bb3  # add x23, x23, x2
+    .word 0x002a1c13  # slli x24, x20, 2
+    .word 0x002c0c33  # add x24, x24, x2
     .word 0x00000913  # addi x18, x0, 0
     .word 0x00100893  # addi x17, x0, 1
     .word 0x00200413  # addi x8, x0, 2
@@ -120,18 +131,15 @@ pkcs1_unpad:
     .word 0x40500933  # sub x18, x0, x5
     .word 0x00000593  # addi x11, x0, 0
     .word 0x00259693  # slli x13, x11, 2
-    .word 0x002682b3  # add x5, x13, x2
-    .word 0x0002c283  # lbu x5, 0(x5)
-    .word 0x00268333  # add x6, x13, x2
-    .word 0x00134303  # lbu x6, 1(x6)
+    .word 0x00268b33  # add x22, x13, x2
+    .word 0x000b4283  # lbu x5, 0(x22)
+    .word 0x001b4303  # lbu x6, 1(x22)
     .word 0x00831313  # slli x6, x6, 8
     .word 0x0062e8b3  # or x17, x5, x6
-    .word 0x00268333  # add x6, x13, x2
-    .word 0x00234303  # lbu x6, 2(x6)
+    .word 0x002b4303  # lbu x6, 2(x22)
     .word 0x01031313  # slli x6, x6, 16
     .word 0x0068e2b3  # or x5, x17, x6
-    .word 0x00268333  # add x6, x13, x2
-    .word 0x00334303  # lbu x6, 3(x6)
+    .word 0x003b4303  # lbu x6, 3(x22)
     .word 0x01831313  # slli x6, x6, 24
     .word 0x0062e8b3  # or x17, x5, x6
     .word 0x0128f333  # and x6, x17, x18
@@ -140,51 +148,53 @@ pkcs1_unpad:
     .word 0x0662ac23  # sw x6, 120(x5)
     .word 0x00158593  # addi x11, x11, 1
     .word 0x0105b293  # sltiu x5, x11, 16
-    .word 0xfa0296e3  # bne x5, x0, -84
+    .word 0xfa029ce3  # bne x5, x0, -72
     .word 0xfff58593  # addi x11, x11, -1
     .word 0x00000613  # addi x12, x0, 0
     .word 0x00800293  # addi x5, x0, 8
     .word 0x00c296b3  # sll x13, x5, x12
+    .word 0x00268b33  # add x22, x13, x2
     .word 0x02000293  # addi x5, x0, 32
     .word 0x40d28733  # sub x14, x5, x13
     .word 0x00c4d2b3  # srl x5, x9, x12
     .word 0x0012f293  # andi x5, x5, 1
     .word 0x405007b3  # sub x15, x0, x5
     .word 0x00000813  # addi x16, x0, 0
-    .word 0x00281893  # slli x17, x16, 2
-    .word 0x002888b3  # add x17, x17, x2
-    .word 0x0788a883  # lw x17, 120(x17)
+    .word 0x00281b93  # slli x23, x16, 2
+    .word 0x002b8bb3  # add x23, x23, x2
+    .word 0x078ba883  # lw x17, 120(x23)
     .word 0x00d8d2b3  # srl x5, x17, x13
-    .word 0x00281313  # slli x6, x16, 2
-    .word 0x00230333  # add x6, x6, x2
-    .word 0x07c32303  # lw x6, 124(x6)
+    .word 0x07cba303  # lw x6, 124(x23)
     .word 0x00e31333  # sll x6, x6, x14
     .word 0x0062c2b3  # xor x5, x5, x6
     .word 0x0112c2b3  # xor x5, x5, x17
     .word 0x00f2f933  # and x18, x5, x15
-    .word 0x0128c333  # xor x6, x17, x18
-    .word 0x00281293  # slli x5, x16, 2
-    .word 0x002282b3  # add x5, x5, x2
-    .word 0x0662ac23  # sw x6, 120(x5)
+    .word 0x0128c2b3  # xor x5, x17, x18
+    .word 0x065bac23  # sw x5, 120(x23)
     .word 0x00180813  # addi x16, x16, 1
+    .word 0x00281b93  # slli x23, x16, 2
+    .word 0x002b8bb3  # add x23, x23, x2
     .word 0x01083293  # sltiu x5, x16, 16
-    .word 0xfa029ee3  # bne x5, x0, -68
+    .word 0xfc0296e3  # bne x5, x0, -52
     .word 0xfff80813  # addi x16, x16, -1
+    .word 0x00281b93  # slli x23, x16, 2
+    .word 0x002b8bb3  # add x23, x23, x2
     .word 0x00160613  # addi x12, x12, 1
     .word 0x00263293  # sltiu x5, x12, 2
-    .word 0xf80296e3  # bne x5, x0, -116
+    .word 0xf80294e3  # bne x5, x0, -120
     .word 0xfff60613  # addi x12, x12, -1
     .word 0x00000993  # addi x19, x0, 0
     .word 0x00100293  # addi x5, x0, 1
     .word 0x013296b3  # sll x13, x5, x19
+    .word 0x00268b33  # add x22, x13, x2
     .word 0x00298313  # addi x6, x19, 2
     .word 0x0064d2b3  # srl x5, x9, x6
     .word 0x0012f293  # andi x5, x5, 1
     .word 0x405007b3  # sub x15, x0, x5
     .word 0x00000a13  # addi x20, x0, 0
-    .word 0x002a1893  # slli x17, x20, 2
-    .word 0x002888b3  # add x17, x17, x2
-    .word 0x0788a883  # lw x17, 120(x17)
+    .word 0x002a1c13  # slli x24, x20, 2
+    .word 0x002c0c33  # add x24, x24, x2
+    .word 0x078c2883  # lw x17, 120(x24)
     .word 0x00f6f313  # andi x6, x13, 15
     .word 0x006a02b3  # add x5, x20, x6
     .word 0x00229293  # slli x5, x5, 2
@@ -192,37 +202,36 @@ pkcs1_unpad:
     .word 0x0782a283  # lw x5, 120(x5)
     .word 0x0112c2b3  # xor x5, x5, x17
     .word 0x00f2f933  # and x18, x5, x15
-    .word 0x0128c333  # xor x6, x17, x18
-    .word 0x002a1293  # slli x5, x20, 2
-    .word 0x002282b3  # add x5, x5, x2
-    .word 0x0662ac23  # sw x6, 120(x5)
+    .word 0x0128c2b3  # xor x5, x17, x18
+    .word 0x065c2c23  # sw x5, 120(x24)
     .word 0x001a0a13  # addi x20, x20, 1
+    .word 0x002a1c13  # slli x24, x20, 2
+    .word 0x002c0c33  # add x24, x24, x2
     .word 0x010a3293  # sltiu x5, x20, 16
-    .word 0xfc0290e3  # bne x5, x0, -64
+    .word 0xfc0294e3  # bne x5, x0, -56
     .word 0xfffa0a13  # addi x20, x20, -1
+    .word 0x002a1c13  # slli x24, x20, 2
+    .word 0x002c0c33  # add x24, x24, x2
     .word 0x00198993  # addi x19, x19, 1
     .word 0x0049b293  # sltiu x5, x19, 4
-    .word 0xf8029ae3  # bne x5, x0, -108
+    .word 0xf80294e3  # bne x5, x0, -120
     .word 0xfff98993  # addi x19, x19, -1
     .word 0x00000a93  # addi x21, x0, 0
     .word 0x002a9693  # slli x13, x21, 2
+    .word 0x00268b33  # add x22, x13, x2
     .word 0x002a9893  # slli x17, x21, 2
     .word 0x002888b3  # add x17, x17, x2
     .word 0x0788a883  # lw x17, 120(x17)
-    .word 0x002682b3  # add x5, x13, x2
-    .word 0x05128023  # sb x17, 64(x5)
-    .word 0x0088d313  # srli x6, x17, 8
-    .word 0x002682b3  # add x5, x13, x2
-    .word 0x046280a3  # sb x6, 65(x5)
-    .word 0x0108d313  # srli x6, x17, 16
-    .word 0x002682b3  # add x5, x13, x2
-    .word 0x04628123  # sb x6, 66(x5)
-    .word 0x0188d313  # srli x6, x17, 24
-    .word 0x002682b3  # add x5, x13, x2
-    .word 0x046281a3  # sb x6, 67(x5)
+    .word 0x051b0023  # sb x17, 64(x22)
+    .word 0x0088d293  # srli x5, x17, 8
+    .word 0x045b00a3  # sb x5, 65(x22)
+    .word 0x0108d293  # srli x5, x17, 16
+    .word 0x045b0123  # sb x5, 66(x22)
+    .word 0x0188d293  # srli x5, x17, 24
+    .word 0x045b01a3  # sb x5, 67(x22)
     .word 0x001a8a93  # addi x21, x21, 1
     .word 0x00dab293  # sltiu x5, x21, 13
-    .word 0xfa029ee3  # bne x5, x0, -68
+    .word 0xfc0294e3  # bne x5, x0, -56
     .word 0xfffa8a93  # addi x21, x21, -1
     .word 0x0ac12283  # lw x5, 172(x2)
     .word 0x06510a23  # sb x5, 116(x2)
@@ -238,7 +247,7 @@ pkcs1_unpad:
     # the result
     .word 0x0f812503  # lw x10, 248(x2)
     # parameter 1: the array, back
-    .word 0x12c12283  # lw x5, 300(x2)
+    .word 0x13c12283  # lw x5, 316(x2)
     .word 0x04010313  # addi x6, x2, 64
     .word 0x03528393  # addi x7, x5, 53
     .word 0x00034e03  # lbu x28, 0(x6)
@@ -261,8 +270,14 @@ pkcs1_unpad:
     .cfi_restore 20
     .word 0x0142aa83  # lw x21, 20(x5)
     .cfi_restore 21
+    .word 0x0182ab03  # lw x22, 24(x5)
+    .cfi_restore 22
+    .word 0x01c2ab83  # lw x23, 28(x5)
+    .cfi_restore 23
+    .word 0x0202ac03  # lw x24, 32(x5)
+    .cfi_restore 24
     # the caller's x2
-    .word 0x02028293  # addi x5, x5, 32
+    .word 0x03028293  # addi x5, x5, 48
     .cfi_def_cfa 5, 0
     # all the room, wiped upward
     .word 0x00012023  # sw x0, 0(x2)

@@ -1,4 +1,4 @@
-# select_32: made by factc 1.0.0 function; 79 words, 144 bytes of stack, profile 1
+# select_32: made by factc 1.0.0 function; 80 words, 144 bytes of stack, profile 1
     .option push
     .option norvc
     .option norelax
@@ -51,21 +51,22 @@ select_32:
     .word 0x00000513  # addi x10, x0, 0
     .word 0x00000593  # addi x11, x0, 0
     .word 0x00000613  # addi x12, x0, 0
+    .word 0x002506b3  # add x13, x10, x2
     .word 0x408004b3  # sub x9, x0, x8
     .word 0x00000513  # addi x10, x0, 0
-    .word 0x002505b3  # add x11, x10, x2
-    .word 0x0245c583  # lbu x11, 36(x11)
-    .word 0x002502b3  # add x5, x10, x2
-    .word 0x0042c283  # lbu x5, 4(x5)
+    .word 0x002506b3  # add x13, x10, x2
+    .word 0x0246c583  # lbu x11, 36(x13)
+    .word 0x0046c283  # lbu x5, 4(x13)
     .word 0x00b2c2b3  # xor x5, x5, x11
     .word 0x0092f633  # and x12, x5, x9
-    .word 0x00c5c333  # xor x6, x11, x12
-    .word 0x002502b3  # add x5, x10, x2
-    .word 0x04628223  # sb x6, 68(x5)
+    .word 0x00c5c2b3  # xor x5, x11, x12
+    .word 0x04568223  # sb x5, 68(x13)
     .word 0x00150513  # addi x10, x10, 1
+    .word 0x002506b3  # add x13, x10, x2
     .word 0x02053293  # sltiu x5, x10, 32
-    .word 0xfc029ae3  # bne x5, x0, -44
+    .word 0xfc029ee3  # bne x5, x0, -36
     .word 0xfff50513  # addi x10, x10, -1
+    .word 0x002506b3  # add x13, x10, x2
     # the result
     .word 0x00000513  # addi x10, x0, 0
     # parameter 3: the array, back

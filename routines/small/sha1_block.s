@@ -1,4 +1,4 @@
-# sha1_block: made by factc 1.0.0 function; 572 words, 448 bytes of stack, profile 1
+# sha1_block: made by factc 1.0.0 function; 546 words, 464 bytes of stack, profile 1
     .option push
     .option norvc
     .option norelax
@@ -10,26 +10,30 @@
 sha1_block:
     .cfi_startproc
     # room above the frame
-    .word 0xfe010113  # addi x2, x2, -32
-    .cfi_def_cfa_offset 32
+    .word 0xfd010113  # addi x2, x2, -48
+    .cfi_def_cfa_offset 48
     # the caller's registers
     .word 0x00812023  # sw x8, 0(x2)
-    .cfi_offset 8, -32
+    .cfi_offset 8, -48
     .word 0x01212223  # sw x18, 4(x2)
-    .cfi_offset 18, -28
+    .cfi_offset 18, -44
     .word 0x01312423  # sw x19, 8(x2)
-    .cfi_offset 19, -24
+    .cfi_offset 19, -40
     .word 0x01412623  # sw x20, 12(x2)
-    .cfi_offset 20, -20
+    .cfi_offset 20, -36
     .word 0x01512823  # sw x21, 16(x2)
-    .cfi_offset 21, -16
+    .cfi_offset 21, -32
     .word 0x01612a23  # sw x22, 20(x2)
-    .cfi_offset 22, -12
+    .cfi_offset 22, -28
+    .word 0x01712c23  # sw x23, 24(x2)
+    .cfi_offset 23, -24
+    .word 0x01812e23  # sw x24, 28(x2)
+    .cfi_offset 24, -20
     # arguments that are needed behind the body
-    .word 0x00a12e23  # sw x10, 28(x2)
+    .word 0x02a12623  # sw x10, 44(x2)
     # the frame's base
     .word 0xe6010113  # addi x2, x2, -416
-    .cfi_def_cfa 2, 448
+    .cfi_def_cfa 2, 464
     # parameter 0: an array
     .word 0x00050293  # addi x5, x10, 0
     .word 0x00010313  # addi x6, x2, 0
@@ -58,6 +62,10 @@ sha1_block:
     .word 0x00000a13  # addi x20, x0, 0
     .word 0x00000a93  # addi x21, x0, 0
     .word 0x00000b13  # addi x22, x0, 0
+    .word 0x00259b93  # slli x23, x11, 2
+    .word 0x002b8bb3  # add x23, x23, x2
+    .word 0x00299c13  # slli x24, x19, 2
+    .word 0x002c0c33  # add x24, x24, x2
     .word 0x04012a23  # sw x0, 84(x2)
     .word 0x04012c23  # sw x0, 88(x2)
     .word 0x04012e23  # sw x0, 92(x2)
@@ -140,6 +148,8 @@ sha1_block:
     .word 0x18012823  # sw x0, 400(x2)
     .word 0x00000513  # addi x10, x0, 0
     .word 0x00251993  # slli x19, x10, 2
+    .word 0x00299c13  # slli x24, x19, 2
+    .word 0x002c0c33  # add x24, x24, x2
     .word 0x002982b3  # add x5, x19, x2
     .word 0x0142c283  # lbu x5, 20(x5)
     .word 0x01829293  # slli x5, x5, 24
@@ -159,34 +169,30 @@ sha1_block:
     .word 0x0462aa23  # sw x6, 84(x5)
     .word 0x00150513  # addi x10, x10, 1
     .word 0x01053293  # sltiu x5, x10, 16
-    .word 0xfa0298e3  # bne x5, x0, -80
+    .word 0xfa0294e3  # bne x5, x0, -88
     .word 0xfff50513  # addi x10, x10, -1
     .word 0x00000593  # addi x11, x0, 0
-    .word 0x00259293  # slli x5, x11, 2
-    .word 0x002282b3  # add x5, x5, x2
-    .word 0x0882a283  # lw x5, 136(x5)
-    .word 0x00259313  # slli x6, x11, 2
-    .word 0x00230333  # add x6, x6, x2
-    .word 0x07432303  # lw x6, 116(x6)
+    .word 0x00259b93  # slli x23, x11, 2
+    .word 0x002b8bb3  # add x23, x23, x2
+    .word 0x088ba283  # lw x5, 136(x23)
+    .word 0x074ba303  # lw x6, 116(x23)
     .word 0x0062c2b3  # xor x5, x5, x6
-    .word 0x00259313  # slli x6, x11, 2
-    .word 0x00230333  # add x6, x6, x2
-    .word 0x05c32303  # lw x6, 92(x6)
+    .word 0x05cba303  # lw x6, 92(x23)
     .word 0x0062c2b3  # xor x5, x5, x6
-    .word 0x00259313  # slli x6, x11, 2
-    .word 0x00230333  # add x6, x6, x2
-    .word 0x05432303  # lw x6, 84(x6)
+    .word 0x054ba303  # lw x6, 84(x23)
     .word 0x0062c633  # xor x12, x5, x6
     .word 0x00161f13  # slli x30, x12, 1
-    .word 0x01f65313  # srli x6, x12, 31
-    .word 0x006f0333  # add x6, x30, x6
-    .word 0x00259293  # slli x5, x11, 2
-    .word 0x002282b3  # add x5, x5, x2
-    .word 0x0862aa23  # sw x6, 148(x5)
+    .word 0x01f65293  # srli x5, x12, 31
+    .word 0x005f02b3  # add x5, x30, x5
+    .word 0x085baa23  # sw x5, 148(x23)
     .word 0x00158593  # addi x11, x11, 1
+    .word 0x00259b93  # slli x23, x11, 2
+    .word 0x002b8bb3  # add x23, x23, x2
     .word 0x0405b293  # sltiu x5, x11, 64
-    .word 0xfa0292e3  # bne x5, x0, -92
+    .word 0xfc0292e3  # bne x5, x0, -60
     .word 0xfff58593  # addi x11, x11, -1
+    .word 0x00259b93  # slli x23, x11, 2
+    .word 0x002b8bb3  # add x23, x23, x2
     .word 0x00012603  # lw x12, 0(x2)
     .word 0x00412683  # lw x13, 4(x2)
     .word 0x00812703  # lw x14, 8(x2)
@@ -197,6 +203,8 @@ sha1_block:
     .word 0x00000913  # addi x18, x0, 0
     .word 0x00500293  # addi x5, x0, 5
     .word 0x032289b3  # mul x19, x5, x18
+    .word 0x00299c13  # slli x24, x19, 2
+    .word 0x002c0c33  # add x24, x24, x2
     .word 0x00561f13  # slli x30, x12, 5
     .word 0x01b65313  # srli x6, x12, 27
     .word 0x006f0333  # add x6, x30, x6
@@ -206,9 +214,7 @@ sha1_block:
     .word 0x00f34333  # xor x6, x6, x15
     .word 0x006282b3  # add x5, x5, x6
     .word 0x011282b3  # add x5, x5, x17
-    .word 0x00299313  # slli x6, x19, 2
-    .word 0x00230333  # add x6, x6, x2
-    .word 0x05432303  # lw x6, 84(x6)
+    .word 0x054c2303  # lw x6, 84(x24)
     .word 0x00628833  # add x16, x5, x6
     .word 0x01e69f13  # slli x30, x13, 30
     .word 0x0026d693  # srli x13, x13, 2
@@ -222,9 +228,7 @@ sha1_block:
     .word 0x00e34333  # xor x6, x6, x14
     .word 0x006282b3  # add x5, x5, x6
     .word 0x011282b3  # add x5, x5, x17
-    .word 0x00299313  # slli x6, x19, 2
-    .word 0x00230333  # add x6, x6, x2
-    .word 0x05832303  # lw x6, 88(x6)
+    .word 0x058c2303  # lw x6, 88(x24)
     .word 0x006287b3  # add x15, x5, x6
     .word 0x01e61f13  # slli x30, x12, 30
     .word 0x00265613  # srli x12, x12, 2
@@ -238,9 +242,7 @@ sha1_block:
     .word 0x00d34333  # xor x6, x6, x13
     .word 0x006282b3  # add x5, x5, x6
     .word 0x011282b3  # add x5, x5, x17
-    .word 0x00299313  # slli x6, x19, 2
-    .word 0x00230333  # add x6, x6, x2
-    .word 0x05c32303  # lw x6, 92(x6)
+    .word 0x05cc2303  # lw x6, 92(x24)
     .word 0x00628733  # add x14, x5, x6
     .word 0x01e81f13  # slli x30, x16, 30
     .word 0x00285813  # srli x16, x16, 2
@@ -254,9 +256,7 @@ sha1_block:
     .word 0x00c34333  # xor x6, x6, x12
     .word 0x006282b3  # add x5, x5, x6
     .word 0x011282b3  # add x5, x5, x17
-    .word 0x00299313  # slli x6, x19, 2
-    .word 0x00230333  # add x6, x6, x2
-    .word 0x06032303  # lw x6, 96(x6)
+    .word 0x060c2303  # lw x6, 96(x24)
     .word 0x006286b3  # add x13, x5, x6
     .word 0x01e79f13  # slli x30, x15, 30
     .word 0x0027d793  # srli x15, x15, 2
@@ -270,22 +270,22 @@ sha1_block:
     .word 0x01034333  # xor x6, x6, x16
     .word 0x006282b3  # add x5, x5, x6
     .word 0x011282b3  # add x5, x5, x17
-    .word 0x00299313  # slli x6, x19, 2
-    .word 0x00230333  # add x6, x6, x2
-    .word 0x06432303  # lw x6, 100(x6)
+    .word 0x064c2303  # lw x6, 100(x24)
     .word 0x00628633  # add x12, x5, x6
     .word 0x01e71f13  # slli x30, x14, 30
     .word 0x00275713  # srli x14, x14, 2
     .word 0x00ef0733  # add x14, x30, x14
     .word 0x00190913  # addi x18, x18, 1
     .word 0x00493293  # sltiu x5, x18, 4
-    .word 0xea0298e3  # bne x5, x0, -336
+    .word 0xec0298e3  # bne x5, x0, -304
     .word 0xfff90913  # addi x18, x18, -1
     .word 0x6ed9f8b7  # lui x17, 0x6ed9f
     .word 0xba188893  # addi x17, x17, -1119
     .word 0x00400a13  # addi x20, x0, 4
     .word 0x00500293  # addi x5, x0, 5
     .word 0x034289b3  # mul x19, x5, x20
+    .word 0x00299c13  # slli x24, x19, 2
+    .word 0x002c0c33  # add x24, x24, x2
     .word 0x00561f13  # slli x30, x12, 5
     .word 0x01b65313  # srli x6, x12, 27
     .word 0x006f0333  # add x6, x30, x6
@@ -294,9 +294,7 @@ sha1_block:
     .word 0x00f34333  # xor x6, x6, x15
     .word 0x006282b3  # add x5, x5, x6
     .word 0x011282b3  # add x5, x5, x17
-    .word 0x00299313  # slli x6, x19, 2
-    .word 0x00230333  # add x6, x6, x2
-    .word 0x05432303  # lw x6, 84(x6)
+    .word 0x054c2303  # lw x6, 84(x24)
     .word 0x00628833  # add x16, x5, x6
     .word 0x01e69f13  # slli x30, x13, 30
     .word 0x0026d693  # srli x13, x13, 2
@@ -309,9 +307,7 @@ sha1_block:
     .word 0x00e34333  # xor x6, x6, x14
     .word 0x006282b3  # add x5, x5, x6
     .word 0x011282b3  # add x5, x5, x17
-    .word 0x00299313  # slli x6, x19, 2
-    .word 0x00230333  # add x6, x6, x2
-    .word 0x05832303  # lw x6, 88(x6)
+    .word 0x058c2303  # lw x6, 88(x24)
     .word 0x006287b3  # add x15, x5, x6
     .word 0x01e61f13  # slli x30, x12, 30
     .word 0x00265613  # srli x12, x12, 2
@@ -324,9 +320,7 @@ sha1_block:
     .word 0x00d34333  # xor x6, x6, x13
     .word 0x006282b3  # add x5, x5, x6
     .word 0x011282b3  # add x5, x5, x17
-    .word 0x00299313  # slli x6, x19, 2
-    .word 0x00230333  # add x6, x6, x2
-    .word 0x05c32303  # lw x6, 92(x6)
+    .word 0x05cc2303  # lw x6, 92(x24)
     .word 0x00628733  # add x14, x5, x6
     .word 0x01e81f13  # slli x30, x16, 30
     .word 0x00285813  # srli x16, x16, 2
@@ -339,9 +333,7 @@ sha1_block:
     .word 0x00c34333  # xor x6, x6, x12
     .word 0x006282b3  # add x5, x5, x6
     .word 0x011282b3  # add x5, x5, x17
-    .word 0x00299313  # slli x6, x19, 2
-    .word 0x00230333  # add x6, x6, x2
-    .word 0x06032303  # lw x6, 96(x6)
+    .word 0x060c2303  # lw x6, 96(x24)
     .word 0x006286b3  # add x13, x5, x6
     .word 0x01e79f13  # slli x30, x15, 30
     .word 0x0027d793  # srli x15, x15, 2
@@ -354,22 +346,22 @@ sha1_block:
     .word 0x01034333  # xor x6, x6, x16
     .word 0x006282b3  # add x5, x5, x6
     .word 0x011282b3  # add x5, x5, x17
-    .word 0x00299313  # slli x6, x19, 2
-    .word 0x00230333  # add x6, x6, x2
-    .word 0x06432303  # lw x6, 100(x6)
+    .word 0x064c2303  # lw x6, 100(x24)
     .word 0x00628633  # add x12, x5, x6
     .word 0x01e71f13  # slli x30, x14, 30
     .word 0x00275713  # srli x14, x14, 2
     .word 0x00ef0733  # add x14, x30, x14
     .word 0x001a0a13  # addi x20, x20, 1
     .word 0x008a3293  # sltiu x5, x20, 8
-    .word 0xec0292e3  # bne x5, x0, -316
+    .word 0xee0292e3  # bne x5, x0, -284
     .word 0xfffa0a13  # addi x20, x20, -1
     .word 0x8f1bc8b7  # lui x17, 0x8f1bc
     .word 0xcdc88893  # addi x17, x17, -804
     .word 0x00800a93  # addi x21, x0, 8
     .word 0x00500293  # addi x5, x0, 5
     .word 0x035289b3  # mul x19, x5, x21
+    .word 0x00299c13  # slli x24, x19, 2
+    .word 0x002c0c33  # add x24, x24, x2
     .word 0x00561f13  # slli x30, x12, 5
     .word 0x01b65313  # srli x6, x12, 27
     .word 0x006f0333  # add x6, x30, x6
@@ -380,9 +372,7 @@ sha1_block:
     .word 0x00736333  # or x6, x6, x7
     .word 0x006282b3  # add x5, x5, x6
     .word 0x011282b3  # add x5, x5, x17
-    .word 0x00299313  # slli x6, x19, 2
-    .word 0x00230333  # add x6, x6, x2
-    .word 0x05432303  # lw x6, 84(x6)
+    .word 0x054c2303  # lw x6, 84(x24)
     .word 0x00628833  # add x16, x5, x6
     .word 0x01e69f13  # slli x30, x13, 30
     .word 0x0026d693  # srli x13, x13, 2
@@ -397,9 +387,7 @@ sha1_block:
     .word 0x00736333  # or x6, x6, x7
     .word 0x006282b3  # add x5, x5, x6
     .word 0x011282b3  # add x5, x5, x17
-    .word 0x00299313  # slli x6, x19, 2
-    .word 0x00230333  # add x6, x6, x2
-    .word 0x05832303  # lw x6, 88(x6)
+    .word 0x058c2303  # lw x6, 88(x24)
     .word 0x006287b3  # add x15, x5, x6
     .word 0x01e61f13  # slli x30, x12, 30
     .word 0x00265613  # srli x12, x12, 2
@@ -414,9 +402,7 @@ sha1_block:
     .word 0x00736333  # or x6, x6, x7
     .word 0x006282b3  # add x5, x5, x6
     .word 0x011282b3  # add x5, x5, x17
-    .word 0x00299313  # slli x6, x19, 2
-    .word 0x00230333  # add x6, x6, x2
-    .word 0x05c32303  # lw x6, 92(x6)
+    .word 0x05cc2303  # lw x6, 92(x24)
     .word 0x00628733  # add x14, x5, x6
     .word 0x01e81f13  # slli x30, x16, 30
     .word 0x00285813  # srli x16, x16, 2
@@ -431,9 +417,7 @@ sha1_block:
     .word 0x00736333  # or x6, x6, x7
     .word 0x006282b3  # add x5, x5, x6
     .word 0x011282b3  # add x5, x5, x17
-    .word 0x00299313  # slli x6, x19, 2
-    .word 0x00230333  # add x6, x6, x2
-    .word 0x06032303  # lw x6, 96(x6)
+    .word 0x060c2303  # lw x6, 96(x24)
     .word 0x006286b3  # add x13, x5, x6
     .word 0x01e79f13  # slli x30, x15, 30
     .word 0x0027d793  # srli x15, x15, 2
@@ -448,22 +432,22 @@ sha1_block:
     .word 0x00736333  # or x6, x6, x7
     .word 0x006282b3  # add x5, x5, x6
     .word 0x011282b3  # add x5, x5, x17
-    .word 0x00299313  # slli x6, x19, 2
-    .word 0x00230333  # add x6, x6, x2
-    .word 0x06432303  # lw x6, 100(x6)
+    .word 0x064c2303  # lw x6, 100(x24)
     .word 0x00628633  # add x12, x5, x6
     .word 0x01e71f13  # slli x30, x14, 30
     .word 0x00275713  # srli x14, x14, 2
     .word 0x00ef0733  # add x14, x30, x14
     .word 0x001a8a93  # addi x21, x21, 1
     .word 0x00cab293  # sltiu x5, x21, 12
-    .word 0xe8029ee3  # bne x5, x0, -356
+    .word 0xea029ee3  # bne x5, x0, -324
     .word 0xfffa8a93  # addi x21, x21, -1
     .word 0xca62c8b7  # lui x17, 0xca62c
     .word 0x1d688893  # addi x17, x17, 470
     .word 0x00c00b13  # addi x22, x0, 12
     .word 0x00500293  # addi x5, x0, 5
     .word 0x036289b3  # mul x19, x5, x22
+    .word 0x00299c13  # slli x24, x19, 2
+    .word 0x002c0c33  # add x24, x24, x2
     .word 0x00561f13  # slli x30, x12, 5
     .word 0x01b65313  # srli x6, x12, 27
     .word 0x006f0333  # add x6, x30, x6
@@ -472,9 +456,7 @@ sha1_block:
     .word 0x00f34333  # xor x6, x6, x15
     .word 0x006282b3  # add x5, x5, x6
     .word 0x011282b3  # add x5, x5, x17
-    .word 0x00299313  # slli x6, x19, 2
-    .word 0x00230333  # add x6, x6, x2
-    .word 0x05432303  # lw x6, 84(x6)
+    .word 0x054c2303  # lw x6, 84(x24)
     .word 0x00628833  # add x16, x5, x6
     .word 0x01e69f13  # slli x30, x13, 30
     .word 0x0026d693  # srli x13, x13, 2
@@ -487,9 +469,7 @@ sha1_block:
     .word 0x00e34333  # xor x6, x6, x14
     .word 0x006282b3  # add x5, x5, x6
     .word 0x011282b3  # add x5, x5, x17
-    .word 0x00299313  # slli x6, x19, 2
-    .word 0x00230333  # add x6, x6, x2
-    .word 0x05832303  # lw x6, 88(x6)
+    .word 0x058c2303  # lw x6, 88(x24)
     .word 0x006287b3  # add x15, x5, x6
     .word 0x01e61f13  # slli x30, x12, 30
     .word 0x00265613  # srli x12, x12, 2
@@ -502,9 +482,7 @@ sha1_block:
     .word 0x00d34333  # xor x6, x6, x13
     .word 0x006282b3  # add x5, x5, x6
     .word 0x011282b3  # add x5, x5, x17
-    .word 0x00299313  # slli x6, x19, 2
-    .word 0x00230333  # add x6, x6, x2
-    .word 0x05c32303  # lw x6, 92(x6)
+    .word 0x05cc2303  # lw x6, 92(x24)
     .word 0x00628733  # add x14, x5, x6
     .word 0x01e81f13  # slli x30, x16, 30
     .word 0x00285813  # srli x16, x16, 2
@@ -517,9 +495,7 @@ sha1_block:
     .word 0x00c34333  # xor x6, x6, x12
     .word 0x006282b3  # add x5, x5, x6
     .word 0x011282b3  # add x5, x5, x17
-    .word 0x00299313  # slli x6, x19, 2
-    .word 0x00230333  # add x6, x6, x2
-    .word 0x06032303  # lw x6, 96(x6)
+    .word 0x060c2303  # lw x6, 96(x24)
     .word 0x006286b3  # add x13, x5, x6
     .word 0x01e79f13  # slli x30, x15, 30
     .word 0x0027d793  # srli x15, x15, 2
@@ -532,16 +508,14 @@ sha1_block:
     .word 0x01034333  # xor x6, x6, x16
     .word 0x006282b3  # add x5, x5, x6
     .word 0x011282b3  # add x5, x5, x17
-    .word 0x00299313  # slli x6, x19, 2
-    .word 0x00230333  # add x6, x6, x2
-    .word 0x06432303  # lw x6, 100(x6)
+    .word 0x064c2303  # lw x6, 100(x24)
     .word 0x00628633  # add x12, x5, x6
     .word 0x01e71f13  # slli x30, x14, 30
     .word 0x00275713  # srli x14, x14, 2
     .word 0x00ef0733  # add x14, x30, x14
     .word 0x001b0b13  # addi x22, x22, 1
     .word 0x010b3293  # sltiu x5, x22, 16
-    .word 0xec0292e3  # bne x5, x0, -316
+    .word 0xee0292e3  # bne x5, x0, -284
     .word 0xfffb0b13  # addi x22, x22, -1
     .word 0x00012283  # lw x5, 0(x2)
     .word 0x00c282b3  # add x5, x5, x12
@@ -561,7 +535,7 @@ sha1_block:
     # the result
     .word 0x00000513  # addi x10, x0, 0
     # parameter 0: the array, back
-    .word 0x1bc12283  # lw x5, 444(x2)
+    .word 0x1cc12283  # lw x5, 460(x2)
     .word 0x00010313  # addi x6, x2, 0
     .word 0x01428393  # addi x7, x5, 20
     .word 0x00032e03  # lw x28, 0(x6)
@@ -584,8 +558,12 @@ sha1_block:
     .cfi_restore 21
     .word 0x0142ab03  # lw x22, 20(x5)
     .cfi_restore 22
+    .word 0x0182ab83  # lw x23, 24(x5)
+    .cfi_restore 23
+    .word 0x01c2ac03  # lw x24, 28(x5)
+    .cfi_restore 24
     # the caller's x2
-    .word 0x02028293  # addi x5, x5, 32
+    .word 0x03028293  # addi x5, x5, 48
     .cfi_def_cfa 5, 0
     # all the room, wiped upward
     .word 0x00012023  # sw x0, 0(x2)

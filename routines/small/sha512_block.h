@@ -6,7 +6,7 @@
 #define FACT_sha512_block_H
 #include <stdbool.h>
 #include <stdint.h>
-#define sha512_block_STACK_BYTES 864
+#define sha512_block_STACK_BYTES 880
 #ifdef __cplusplus
 extern "C" {
 #endif

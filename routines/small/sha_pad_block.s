@@ -1,4 +1,4 @@
-# sha_pad_block: made by factc 1.0.0 function; 109 words, 112 bytes of stack, profile 1
+# sha_pad_block: made by factc 1.0.0 function; 111 words, 112 bytes of stack, profile 1
     .option push
     .option norvc
     .option norelax
@@ -41,27 +41,29 @@ sha_pad_block:
     .word 0x00000693  # addi x13, x0, 0
     .word 0x00000713  # addi x14, x0, 0
     .word 0x00000813  # addi x16, x0, 0
+    .word 0x002688b3  # add x17, x13, x2
     .word 0x00000693  # addi x13, x0, 0
+    .word 0x002688b3  # add x17, x13, x2
     .word 0x00659293  # slli x5, x11, 6
     .word 0x00d28733  # add x14, x5, x13
-    .word 0x00c73333  # sltu x6, x14, x12
-    .word 0x002683b3  # add x7, x13, x2
-    .word 0x0003c383  # lbu x7, 0(x7)
-    .word 0x40c70433  # sub x8, x14, x12
-    .word 0x00803433  # sltu x8, x0, x8
-    .word 0x08000493  # addi x9, x0, 128
-    .word 0xfff40413  # addi x8, x8, -1
-    .word 0x0084f433  # and x8, x9, x8
-    .word 0x40600333  # sub x6, x0, x6
-    .word 0x0083c3b3  # xor x7, x7, x8
-    .word 0x0063f3b3  # and x7, x7, x6
-    .word 0x00744333  # xor x6, x8, x7
-    .word 0x002682b3  # add x5, x13, x2
-    .word 0x00628023  # sb x6, 0(x5)
+    .word 0x00c732b3  # sltu x5, x14, x12
+    .word 0x0008c303  # lbu x6, 0(x17)
+    .word 0x40c703b3  # sub x7, x14, x12
+    .word 0x007033b3  # sltu x7, x0, x7
+    .word 0x08000413  # addi x8, x0, 128
+    .word 0xfff38393  # addi x7, x7, -1
+    .word 0x007473b3  # and x7, x8, x7
+    .word 0x405002b3  # sub x5, x0, x5
+    .word 0x00734333  # xor x6, x6, x7
+    .word 0x00537333  # and x6, x6, x5
+    .word 0x0063c2b3  # xor x5, x7, x6
+    .word 0x00588023  # sb x5, 0(x17)
     .word 0x00168693  # addi x13, x13, 1
+    .word 0x002688b3  # add x17, x13, x2
     .word 0x0406b293  # sltiu x5, x13, 64
-    .word 0xfa029ce3  # bne x5, x0, -72
+    .word 0xfa029ee3  # bne x5, x0, -68
     .word 0xfff68693  # addi x13, x13, -1
+    .word 0x002688b3  # add x17, x13, x2
     .word 0x00860293  # addi x5, x12, 8
     .word 0x0062d293  # srli x5, x5, 6
     .word 0x40b287b3  # sub x15, x5, x11

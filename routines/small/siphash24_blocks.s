@@ -1,4 +1,4 @@
-# siphash24_blocks: made by factc 1.0.0 function; 205 words, 160 bytes of stack, profile 1
+# siphash24_blocks: made by factc 1.0.0 function; 202 words, 176 bytes of stack, profile 1
     .option push
     .option norvc
     .option norelax
@@ -10,28 +10,30 @@
 siphash24_blocks:
     .cfi_startproc
     # room above the frame
-    .word 0xfe010113  # addi x2, x2, -32
-    .cfi_def_cfa_offset 32
+    .word 0xfd010113  # addi x2, x2, -48
+    .cfi_def_cfa_offset 48
     # the caller's registers
     .word 0x00812023  # sw x8, 0(x2)
-    .cfi_offset 8, -32
+    .cfi_offset 8, -48
     .word 0x00912223  # sw x9, 4(x2)
-    .cfi_offset 9, -28
+    .cfi_offset 9, -44
     .word 0x01212423  # sw x18, 8(x2)
-    .cfi_offset 18, -24
+    .cfi_offset 18, -40
     .word 0x01312623  # sw x19, 12(x2)
-    .cfi_offset 19, -20
+    .cfi_offset 19, -36
     .word 0x01412823  # sw x20, 16(x2)
-    .cfi_offset 20, -16
+    .cfi_offset 20, -32
     .word 0x01512a23  # sw x21, 20(x2)
-    .cfi_offset 21, -12
+    .cfi_offset 21, -28
     .word 0x01612c23  # sw x22, 24(x2)
-    .cfi_offset 22, -8
+    .cfi_offset 22, -24
+    .word 0x01712e23  # sw x23, 28(x2)
+    .cfi_offset 23, -20
     # arguments that are needed behind the body
-    .word 0x00a12e23  # sw x10, 28(x2)
+    .word 0x02a12623  # sw x10, 44(x2)
     # the frame's base
     .word 0xf8010113  # addi x2, x2, -128
-    .cfi_def_cfa 2, 160
+    .cfi_def_cfa 2, 176
     # parameter 0: an array
     .word 0x00050293  # addi x5, x10, 0
     .word 0x00010313  # addi x6, x2, 0
@@ -60,6 +62,7 @@ siphash24_blocks:
     .word 0x00000a13  # addi x20, x0, 0
     .word 0x00000a93  # addi x21, x0, 0
     .word 0x00000b13  # addi x22, x0, 0
+    .word 0x00298bb3  # add x23, x19, x2
     .word 0x00012483  # lw x9, 0(x2)
     .word 0x00412503  # lw x10, 4(x2)
     .word 0x00812583  # lw x11, 8(x2)
@@ -82,37 +85,31 @@ siphash24_blocks:
     .word 0x06c12283  # lw x5, 108(x2)
     .word 0x005332b3  # sltu x5, x6, x5
     .word 0x00029463  # bne x5, x0, 8
-    .word 0x1980006f  # jal x0, 408
+    .word 0x1800006f  # jal x0, 384
     .word 0x00030913  # addi x18, x6, 0
     .word 0x00391993  # slli x19, x18, 3
-    .word 0x002982b3  # add x5, x19, x2
-    .word 0x0202c283  # lbu x5, 32(x5)
-    .word 0x00298333  # add x6, x19, x2
-    .word 0x02134303  # lbu x6, 33(x6)
+    .word 0x00298bb3  # add x23, x19, x2
+    .word 0x020bc283  # lbu x5, 32(x23)
+    .word 0x021bc303  # lbu x6, 33(x23)
     .word 0x00831313  # slli x6, x6, 8
     .word 0x0062e8b3  # or x17, x5, x6
-    .word 0x00298333  # add x6, x19, x2
-    .word 0x02234303  # lbu x6, 34(x6)
+    .word 0x022bc303  # lbu x6, 34(x23)
     .word 0x01031313  # slli x6, x6, 16
     .word 0x0068e2b3  # or x5, x17, x6
-    .word 0x00298333  # add x6, x19, x2
-    .word 0x02334303  # lbu x6, 35(x6)
+    .word 0x023bc303  # lbu x6, 35(x23)
     .word 0x01831313  # slli x6, x6, 24
     .word 0x0062ea33  # or x20, x5, x6
     .word 0x00391293  # slli x5, x18, 3
     .word 0x00428993  # addi x19, x5, 4
-    .word 0x002982b3  # add x5, x19, x2
-    .word 0x0202c283  # lbu x5, 32(x5)
-    .word 0x00298333  # add x6, x19, x2
-    .word 0x02134303  # lbu x6, 33(x6)
+    .word 0x00298bb3  # add x23, x19, x2
+    .word 0x020bc283  # lbu x5, 32(x23)
+    .word 0x021bc303  # lbu x6, 33(x23)
     .word 0x00831313  # slli x6, x6, 8
     .word 0x0062e8b3  # or x17, x5, x6
-    .word 0x00298333  # add x6, x19, x2
-    .word 0x02234303  # lbu x6, 34(x6)
+    .word 0x022bc303  # lbu x6, 34(x23)
     .word 0x01031313  # slli x6, x6, 16
     .word 0x0068e2b3  # or x5, x17, x6
-    .word 0x00298333  # add x6, x19, x2
-    .word 0x02334303  # lbu x6, 35(x6)
+    .word 0x023bc303  # lbu x6, 35(x23)
     .word 0x01831313  # slli x6, x6, 24
     .word 0x0062eab3  # or x21, x5, x6
     .word 0x0147c7b3  # xor x15, x15, x20
@@ -181,7 +178,7 @@ siphash24_blocks:
     .word 0x00190913  # addi x18, x18, 1
     .word 0x06c12283  # lw x5, 108(x2)
     .word 0x005932b3  # sltu x5, x18, x5
-    .word 0xe6029ee3  # bne x5, x0, -388
+    .word 0xe8029ae3  # bne x5, x0, -364
     .word 0xfff90913  # addi x18, x18, -1
     .word 0x0040006f  # jal x0, 4
     .word 0x00912023  # sw x9, 0(x2)
@@ -195,7 +192,7 @@ siphash24_blocks:
     # the result
     .word 0x00000513  # addi x10, x0, 0
     # parameter 0: the array, back
-    .word 0x09c12283  # lw x5, 156(x2)
+    .word 0x0ac12283  # lw x5, 172(x2)
     .word 0x00010313  # addi x6, x2, 0
     .word 0x02028393  # addi x7, x5, 32
     .word 0x00032e03  # lw x28, 0(x6)
@@ -220,8 +217,10 @@ siphash24_blocks:
     .cfi_restore 21
     .word 0x0182ab03  # lw x22, 24(x5)
     .cfi_restore 22
+    .word 0x01c2ab83  # lw x23, 28(x5)
+    .cfi_restore 23
     # the caller's x2
-    .word 0x02028293  # addi x5, x5, 32
+    .word 0x03028293  # addi x5, x5, 48
     .cfi_def_cfa 5, 0
     # all the room, wiped upward
     .word 0x00012023  # sw x0, 0(x2)

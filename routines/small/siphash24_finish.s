@@ -1,4 +1,4 @@
-# siphash24_finish: made by factc 1.0.0 function; 178 words, 96 bytes of stack, profile 1
+# siphash24_finish: made by factc 1.0.0 function; 182 words, 112 bytes of stack, profile 1
     .option push
     .option norvc
     .option norelax
@@ -10,26 +10,28 @@
 siphash24_finish:
     .cfi_startproc
     # room above the frame
-    .word 0xfe010113  # addi x2, x2, -32
-    .cfi_def_cfa_offset 32
+    .word 0xfd010113  # addi x2, x2, -48
+    .cfi_def_cfa_offset 48
     # the caller's registers
     .word 0x00912023  # sw x9, 0(x2)
-    .cfi_offset 9, -32
+    .cfi_offset 9, -48
     .word 0x01212223  # sw x18, 4(x2)
-    .cfi_offset 18, -28
+    .cfi_offset 18, -44
     .word 0x01312423  # sw x19, 8(x2)
-    .cfi_offset 19, -24
+    .cfi_offset 19, -40
     .word 0x01412623  # sw x20, 12(x2)
-    .cfi_offset 20, -20
+    .cfi_offset 20, -36
     .word 0x01512823  # sw x21, 16(x2)
-    .cfi_offset 21, -16
+    .cfi_offset 21, -32
+    .word 0x01612a23  # sw x22, 20(x2)
+    .cfi_offset 22, -28
     # arguments that are needed behind the body
-    .word 0x00a12a23  # sw x10, 20(x2)
-    .word 0x00b12c23  # sw x11, 24(x2)
-    .word 0x00c12e23  # sw x12, 28(x2)
+    .word 0x02a12223  # sw x10, 36(x2)
+    .word 0x02b12423  # sw x11, 40(x2)
+    .word 0x02c12623  # sw x12, 44(x2)
     # the frame's base
     .word 0xfc010113  # addi x2, x2, -64
-    .cfi_def_cfa 2, 96
+    .cfi_def_cfa 2, 112
     # parameter 0: an array
     .word 0x00050293  # addi x5, x10, 0
     .word 0x00010313  # addi x6, x2, 0
@@ -51,6 +53,7 @@ siphash24_finish:
     # the body
     .word 0x00000a13  # addi x20, x0, 0
     .word 0x00000a93  # addi x21, x0, 0
+    .word 0x002a8b33  # add x22, x21, x2
     .word 0x00012483  # lw x9, 0(x2)
     .word 0x00412503  # lw x10, 4(x2)
     .word 0x00812583  # lw x11, 8(x2)
@@ -152,22 +155,23 @@ siphash24_finish:
     .word 0x00e2c2b3  # xor x5, x5, x14
     .word 0x0102c7b3  # xor x15, x5, x16
     .word 0x00000a93  # addi x21, x0, 0
-    .word 0x003a9393  # slli x7, x21, 3
-    .word 0x0078d333  # srl x6, x17, x7
-    .word 0x002a82b3  # add x5, x21, x2
-    .word 0x02628423  # sb x6, 40(x5)
-    .word 0x003a9393  # slli x7, x21, 3
-    .word 0x0077d333  # srl x6, x15, x7
-    .word 0x002a82b3  # add x5, x21, x2
-    .word 0x02628623  # sb x6, 44(x5)
+    .word 0x002a8b33  # add x22, x21, x2
+    .word 0x003a9313  # slli x6, x21, 3
+    .word 0x0068d2b3  # srl x5, x17, x6
+    .word 0x025b0423  # sb x5, 40(x22)
+    .word 0x003a9313  # slli x6, x21, 3
+    .word 0x0067d2b3  # srl x5, x15, x6
+    .word 0x025b0623  # sb x5, 44(x22)
     .word 0x001a8a93  # addi x21, x21, 1
+    .word 0x002a8b33  # add x22, x21, x2
     .word 0x004ab293  # sltiu x5, x21, 4
-    .word 0xfc029ce3  # bne x5, x0, -40
+    .word 0xfc029ee3  # bne x5, x0, -36
     .word 0xfffa8a93  # addi x21, x21, -1
+    .word 0x002a8b33  # add x22, x21, x2
     # the result
     .word 0x00000513  # addi x10, x0, 0
     # parameter 2: the array, back
-    .word 0x05c12283  # lw x5, 92(x2)
+    .word 0x06c12283  # lw x5, 108(x2)
     .word 0x02810313  # addi x6, x2, 40
     .word 0x00828393  # addi x7, x5, 8
     .word 0x00034e03  # lbu x28, 0(x6)
@@ -188,8 +192,10 @@ siphash24_finish:
     .cfi_restore 20
     .word 0x0102aa83  # lw x21, 16(x5)
     .cfi_restore 21
+    .word 0x0142ab03  # lw x22, 20(x5)
+    .cfi_restore 22
     # the caller's x2
-    .word 0x02028293  # addi x5, x5, 32
+    .word 0x03028293  # addi x5, x5, 48
     .cfi_def_cfa 5, 0
     # all the room, wiped upward
     .word 0x00012023  # sw x0, 0(x2)

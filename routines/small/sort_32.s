@@ -1,4 +1,4 @@
-# sort_32: made by factc 1.0.0 function; 124 words, 192 bytes of stack, profile 1
+# sort_32: made by factc 1.0.0 function; 128 words, 192 bytes of stack, profile 1
     .option push
     .option norvc
     .option norelax
@@ -21,6 +21,10 @@ sort_32:
     .cfi_offset 19, -24
     .word 0x01412623  # sw x20, 12(x2)
     .cfi_offset 20, -20
+    .word 0x01512823  # sw x21, 16(x2)
+    .cfi_offset 21, -16
+    .word 0x01612a23  # sw x22, 20(x2)
+    .cfi_offset 22, -12
     # arguments that are needed behind the body
     .word 0x00a12e23  # sw x10, 28(x2)
     # the frame's base
@@ -48,6 +52,10 @@ sort_32:
     .word 0x00000913  # addi x18, x0, 0
     .word 0x00000993  # addi x19, x0, 0
     .word 0x00000a13  # addi x20, x0, 0
+    .word 0x00279a93  # slli x21, x15, 2
+    .word 0x002a8ab3  # add x21, x21, x2
+    .word 0x00281b13  # slli x22, x16, 2
+    .word 0x002b0b33  # add x22, x22, x2
     .word 0x00000493  # addi x9, x0, 0
     .word 0x00148513  # addi x10, x9, 1
     .word 0x08012623  # sw x0, 140(x2)
@@ -56,7 +64,7 @@ sort_32:
     .word 0x09012283  # lw x5, 144(x2)
     .word 0x005332b3  # sltu x5, x6, x5
     .word 0x00029463  # bne x5, x0, 8
-    .word 0x0c40006f  # jal x0, 196
+    .word 0x0b40006f  # jal x0, 180
     .word 0x00030593  # addi x11, x6, 0
     .word 0x40b482b3  # sub x5, x9, x11
     .word 0x0072f613  # andi x12, x5, 7
@@ -70,14 +78,14 @@ sort_32:
     .word 0x00777333  # and x6, x14, x7
     .word 0x0062e2b3  # or x5, x5, x6
     .word 0x01f2f793  # andi x15, x5, 31
+    .word 0x00279a93  # slli x21, x15, 2
+    .word 0x002a8ab3  # add x21, x21, x2
     .word 0x00d7e2b3  # or x5, x15, x13
     .word 0x01f2f813  # andi x16, x5, 31
-    .word 0x00279893  # slli x17, x15, 2
-    .word 0x002888b3  # add x17, x17, x2
-    .word 0x0008a883  # lw x17, 0(x17)
-    .word 0x00281913  # slli x18, x16, 2
-    .word 0x00290933  # add x18, x18, x2
-    .word 0x00092903  # lw x18, 0(x18)
+    .word 0x00281b13  # slli x22, x16, 2
+    .word 0x002b0b33  # add x22, x22, x2
+    .word 0x000aa883  # lw x17, 0(x21)
+    .word 0x000b2903  # lw x18, 0(x22)
     .word 0x00a7d2b3  # srl x5, x15, x10
     .word 0x0012f293  # andi x5, x5, 1
     .word 0x0012b993  # sltiu x19, x5, 1
@@ -87,27 +95,23 @@ sort_32:
     .word 0x0128c333  # xor x6, x17, x18
     .word 0xfff28293  # addi x5, x5, -1
     .word 0x00537a33  # and x20, x6, x5
-    .word 0x0148c333  # xor x6, x17, x20
-    .word 0x00279293  # slli x5, x15, 2
-    .word 0x002282b3  # add x5, x5, x2
-    .word 0x0062a023  # sw x6, 0(x5)
-    .word 0x01494333  # xor x6, x18, x20
-    .word 0x00281293  # slli x5, x16, 2
-    .word 0x002282b3  # add x5, x5, x2
-    .word 0x0062a023  # sw x6, 0(x5)
+    .word 0x0148c2b3  # xor x5, x17, x20
+    .word 0x005aa023  # sw x5, 0(x21)
+    .word 0x014942b3  # xor x5, x18, x20
+    .word 0x005b2023  # sw x5, 0(x22)
     .word 0x00170713  # addi x14, x14, 1
     .word 0x01073293  # sltiu x5, x14, 16
-    .word 0xf6029ce3  # bne x5, x0, -136
+    .word 0xf80294e3  # bne x5, x0, -120
     .word 0xfff70713  # addi x14, x14, -1
     .word 0x00158593  # addi x11, x11, 1
     .word 0x09012283  # lw x5, 144(x2)
     .word 0x0055b2b3  # sltu x5, x11, x5
-    .word 0xf40298e3  # bne x5, x0, -176
+    .word 0xf60290e3  # bne x5, x0, -160
     .word 0xfff58593  # addi x11, x11, -1
     .word 0x0040006f  # jal x0, 4
     .word 0x00148493  # addi x9, x9, 1
     .word 0x0054b293  # sltiu x5, x9, 5
-    .word 0xf0029ce3  # bne x5, x0, -232
+    .word 0xf20294e3  # bne x5, x0, -216
     .word 0xfff48493  # addi x9, x9, -1
     # the result
     .word 0x00000513  # addi x10, x0, 0
@@ -131,6 +135,10 @@ sort_32:
     .cfi_restore 19
     .word 0x00c2aa03  # lw x20, 12(x5)
     .cfi_restore 20
+    .word 0x0102aa83  # lw x21, 16(x5)
+    .cfi_restore 21
+    .word 0x0142ab03  # lw x22, 20(x5)
+    .cfi_restore 22
     # the caller's x2
     .word 0x02028293  # addi x5, x5, 32
     .cfi_def_cfa 5, 0

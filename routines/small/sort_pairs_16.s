@@ -1,4 +1,4 @@
-# sort_pairs_16: made by factc 1.0.0 function; 174 words, 208 bytes of stack, profile 1
+# sort_pairs_16: made by factc 1.0.0 function; 170 words, 208 bytes of stack, profile 1
     .option push
     .option norvc
     .option norelax
@@ -29,6 +29,10 @@ sort_pairs_16:
     .cfi_offset 23, -24
     .word 0x01812e23  # sw x24, 28(x2)
     .cfi_offset 24, -20
+    .word 0x03912023  # sw x25, 32(x2)
+    .cfi_offset 25, -16
+    .word 0x03a12223  # sw x26, 36(x2)
+    .cfi_offset 26, -12
     # arguments that are needed behind the body
     .word 0x02a12423  # sw x10, 40(x2)
     .word 0x02b12623  # sw x11, 44(x2)
@@ -70,6 +74,10 @@ sort_pairs_16:
     .word 0x00000b13  # addi x22, x0, 0
     .word 0x00000b93  # addi x23, x0, 0
     .word 0x00000c13  # addi x24, x0, 0
+    .word 0x00279c93  # slli x25, x15, 2
+    .word 0x002c8cb3  # add x25, x25, x2
+    .word 0x00281d13  # slli x26, x16, 2
+    .word 0x002d0d33  # add x26, x26, x2
     .word 0x00000493  # addi x9, x0, 0
     .word 0x00148513  # addi x10, x9, 1
     .word 0x08012623  # sw x0, 140(x2)
@@ -78,7 +86,7 @@ sort_pairs_16:
     .word 0x09012283  # lw x5, 144(x2)
     .word 0x005332b3  # sltu x5, x6, x5
     .word 0x00029463  # bne x5, x0, 8
-    .word 0x1180006f  # jal x0, 280
+    .word 0x0e80006f  # jal x0, 232
     .word 0x00030593  # addi x11, x6, 0
     .word 0x40b482b3  # sub x5, x9, x11
     .word 0x0032f613  # andi x12, x5, 3
@@ -92,20 +100,16 @@ sort_pairs_16:
     .word 0x00777333  # and x6, x14, x7
     .word 0x0062e2b3  # or x5, x5, x6
     .word 0x00f2f793  # andi x15, x5, 15
+    .word 0x00279c93  # slli x25, x15, 2
+    .word 0x002c8cb3  # add x25, x25, x2
     .word 0x00d7e2b3  # or x5, x15, x13
     .word 0x00f2f813  # andi x16, x5, 15
-    .word 0x00279893  # slli x17, x15, 2
-    .word 0x002888b3  # add x17, x17, x2
-    .word 0x0008a883  # lw x17, 0(x17)
-    .word 0x00281913  # slli x18, x16, 2
-    .word 0x00290933  # add x18, x18, x2
-    .word 0x00092903  # lw x18, 0(x18)
-    .word 0x00279993  # slli x19, x15, 2
-    .word 0x002989b3  # add x19, x19, x2
-    .word 0x0409a983  # lw x19, 64(x19)
-    .word 0x00281a13  # slli x20, x16, 2
-    .word 0x002a0a33  # add x20, x20, x2
-    .word 0x040a2a03  # lw x20, 64(x20)
+    .word 0x00281d13  # slli x26, x16, 2
+    .word 0x002d0d33  # add x26, x26, x2
+    .word 0x000ca883  # lw x17, 0(x25)
+    .word 0x000d2903  # lw x18, 0(x26)
+    .word 0x040ca983  # lw x19, 64(x25)
+    .word 0x040d2a03  # lw x20, 64(x26)
     .word 0x011932b3  # sltu x5, x18, x17
     .word 0x41190333  # sub x6, x18, x17
     .word 0x00133313  # sltiu x6, x6, 1
@@ -122,35 +126,27 @@ sort_pairs_16:
     .word 0x006bfc33  # and x24, x23, x6
     .word 0x0149c333  # xor x6, x19, x20
     .word 0x006bfbb3  # and x23, x23, x6
-    .word 0x0188c333  # xor x6, x17, x24
-    .word 0x00279293  # slli x5, x15, 2
-    .word 0x002282b3  # add x5, x5, x2
-    .word 0x0062a023  # sw x6, 0(x5)
-    .word 0x01894333  # xor x6, x18, x24
-    .word 0x00281293  # slli x5, x16, 2
-    .word 0x002282b3  # add x5, x5, x2
-    .word 0x0062a023  # sw x6, 0(x5)
-    .word 0x0179c333  # xor x6, x19, x23
-    .word 0x00279293  # slli x5, x15, 2
-    .word 0x002282b3  # add x5, x5, x2
-    .word 0x0462a023  # sw x6, 64(x5)
-    .word 0x017a4333  # xor x6, x20, x23
-    .word 0x00281293  # slli x5, x16, 2
-    .word 0x002282b3  # add x5, x5, x2
-    .word 0x0462a023  # sw x6, 64(x5)
+    .word 0x0188c2b3  # xor x5, x17, x24
+    .word 0x005ca023  # sw x5, 0(x25)
+    .word 0x018942b3  # xor x5, x18, x24
+    .word 0x005d2023  # sw x5, 0(x26)
+    .word 0x0179c2b3  # xor x5, x19, x23
+    .word 0x045ca023  # sw x5, 64(x25)
+    .word 0x017a42b3  # xor x5, x20, x23
+    .word 0x045d2023  # sw x5, 64(x26)
     .word 0x00170713  # addi x14, x14, 1
     .word 0x00873293  # sltiu x5, x14, 8
-    .word 0xf20292e3  # bne x5, x0, -220
+    .word 0xf4029ae3  # bne x5, x0, -172
     .word 0xfff70713  # addi x14, x14, -1
     .word 0x00158593  # addi x11, x11, 1
     .word 0x09012283  # lw x5, 144(x2)
     .word 0x0055b2b3  # sltu x5, x11, x5
-    .word 0xee029ee3  # bne x5, x0, -260
+    .word 0xf20296e3  # bne x5, x0, -212
     .word 0xfff58593  # addi x11, x11, -1
     .word 0x0040006f  # jal x0, 4
     .word 0x00148493  # addi x9, x9, 1
     .word 0x0044b293  # sltiu x5, x9, 4
-    .word 0xec0292e3  # bne x5, x0, -316
+    .word 0xee029ae3  # bne x5, x0, -268
     .word 0xfff48493  # addi x9, x9, -1
     # the result
     .word 0x00000513  # addi x10, x0, 0
@@ -191,6 +187,10 @@ sort_pairs_16:
     .cfi_restore 23
     .word 0x01c2ac03  # lw x24, 28(x5)
     .cfi_restore 24
+    .word 0x0202ac83  # lw x25, 32(x5)
+    .cfi_restore 25
+    .word 0x0242ad03  # lw x26, 36(x5)
+    .cfi_restore 26
     # the caller's x2
     .word 0x03028293  # addi x5, x5, 48
     .cfi_def_cfa 5, 0

@@ -1,4 +1,4 @@
-# speck64_decrypt: made by factc 1.0.0 function; 180 words, 160 bytes of stack, profile 1
+# speck64_decrypt: made by factc 1.0.0 function; 174 words, 160 bytes of stack, profile 1
     .option push
     .option norvc
     .option norelax
@@ -43,6 +43,8 @@ speck64_decrypt:
     .word 0x00000713  # addi x14, x0, 0
     .word 0x00000793  # addi x15, x0, 0
     .word 0x00000813  # addi x16, x0, 0
+    .word 0x00279893  # slli x17, x15, 2
+    .word 0x002888b3  # add x17, x17, x2
     .word 0x01012403  # lw x8, 16(x2)
     .word 0x01412483  # lw x9, 20(x2)
     .word 0x00c12503  # lw x10, 12(x2)
@@ -79,9 +81,9 @@ speck64_decrypt:
     .word 0x00000713  # addi x14, x0, 0
     .word 0x00300293  # addi x5, x0, 3
     .word 0x02e287b3  # mul x15, x5, x14
-    .word 0x00279293  # slli x5, x15, 2
-    .word 0x002282b3  # add x5, x5, x2
-    .word 0x00a2ac23  # sw x10, 24(x5)
+    .word 0x00279893  # slli x17, x15, 2
+    .word 0x002888b3  # add x17, x17, x2
+    .word 0x00a8ac23  # sw x10, 24(x17)
     .word 0x01859f13  # slli x30, x11, 24
     .word 0x0085d293  # srli x5, x11, 8
     .word 0x005f02b3  # add x5, x30, x5
@@ -91,9 +93,7 @@ speck64_decrypt:
     .word 0x01d55293  # srli x5, x10, 29
     .word 0x005f02b3  # add x5, x30, x5
     .word 0x00b2c533  # xor x10, x5, x11
-    .word 0x00279293  # slli x5, x15, 2
-    .word 0x002282b3  # add x5, x5, x2
-    .word 0x00a2ae23  # sw x10, 28(x5)
+    .word 0x00a8ae23  # sw x10, 28(x17)
     .word 0x01861f13  # slli x30, x12, 24
     .word 0x00865293  # srli x5, x12, 8
     .word 0x005f02b3  # add x5, x30, x5
@@ -104,9 +104,7 @@ speck64_decrypt:
     .word 0x01d55293  # srli x5, x10, 29
     .word 0x005f02b3  # add x5, x30, x5
     .word 0x00c2c533  # xor x10, x5, x12
-    .word 0x00279293  # slli x5, x15, 2
-    .word 0x002282b3  # add x5, x5, x2
-    .word 0x02a2a023  # sw x10, 32(x5)
+    .word 0x02a8a023  # sw x10, 32(x17)
     .word 0x01869f13  # slli x30, x13, 24
     .word 0x0086d293  # srli x5, x13, 8
     .word 0x005f02b3  # add x5, x30, x5
@@ -119,20 +117,20 @@ speck64_decrypt:
     .word 0x00d2c533  # xor x10, x5, x13
     .word 0x00170713  # addi x14, x14, 1
     .word 0x00973293  # sltiu x5, x14, 9
-    .word 0xf4029ce3  # bne x5, x0, -168
+    .word 0xf60294e3  # bne x5, x0, -152
     .word 0xfff70713  # addi x14, x14, -1
     .word 0x00000813  # addi x16, x0, 0
     .word 0x01800293  # addi x5, x0, 24
     .word 0x00300313  # addi x6, x0, 3
     .word 0x03030333  # mul x6, x6, x16
     .word 0x406287b3  # sub x15, x5, x6
+    .word 0x00279893  # slli x17, x15, 2
+    .word 0x002888b3  # add x17, x17, x2
     .word 0x009442b3  # xor x5, x8, x9
     .word 0x01d29f13  # slli x30, x5, 29
     .word 0x0032d493  # srli x9, x5, 3
     .word 0x009f04b3  # add x9, x30, x9
-    .word 0x00279313  # slli x6, x15, 2
-    .word 0x00230333  # add x6, x6, x2
-    .word 0x02032303  # lw x6, 32(x6)
+    .word 0x0208a303  # lw x6, 32(x17)
     .word 0x006442b3  # xor x5, x8, x6
     .word 0x409282b3  # sub x5, x5, x9
     .word 0x00829f13  # slli x30, x5, 8
@@ -142,9 +140,7 @@ speck64_decrypt:
     .word 0x01d29f13  # slli x30, x5, 29
     .word 0x0032d493  # srli x9, x5, 3
     .word 0x009f04b3  # add x9, x30, x9
-    .word 0x00279313  # slli x6, x15, 2
-    .word 0x00230333  # add x6, x6, x2
-    .word 0x01c32303  # lw x6, 28(x6)
+    .word 0x01c8a303  # lw x6, 28(x17)
     .word 0x006442b3  # xor x5, x8, x6
     .word 0x409282b3  # sub x5, x5, x9
     .word 0x00829f13  # slli x30, x5, 8
@@ -154,9 +150,7 @@ speck64_decrypt:
     .word 0x01d29f13  # slli x30, x5, 29
     .word 0x0032d493  # srli x9, x5, 3
     .word 0x009f04b3  # add x9, x30, x9
-    .word 0x00279313  # slli x6, x15, 2
-    .word 0x00230333  # add x6, x6, x2
-    .word 0x01832303  # lw x6, 24(x6)
+    .word 0x0188a303  # lw x6, 24(x17)
     .word 0x006442b3  # xor x5, x8, x6
     .word 0x409282b3  # sub x5, x5, x9
     .word 0x00829f13  # slli x30, x5, 8
@@ -164,7 +158,7 @@ speck64_decrypt:
     .word 0x008f0433  # add x8, x30, x8
     .word 0x00180813  # addi x16, x16, 1
     .word 0x00983293  # sltiu x5, x16, 9
-    .word 0xf4029ce3  # bne x5, x0, -168
+    .word 0xf60294e3  # bne x5, x0, -152
     .word 0xfff80813  # addi x16, x16, -1
     .word 0x00812823  # sw x8, 16(x2)
     .word 0x00912a23  # sw x9, 20(x2)

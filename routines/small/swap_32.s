@@ -51,24 +51,24 @@ swap_32:
     .word 0x00000593  # addi x11, x0, 0
     .word 0x00000613  # addi x12, x0, 0
     .word 0x00000693  # addi x13, x0, 0
+    .word 0x00250733  # add x14, x10, x2
     .word 0x408004b3  # sub x9, x0, x8
     .word 0x00000513  # addi x10, x0, 0
-    .word 0x002505b3  # add x11, x10, x2
-    .word 0x0045c583  # lbu x11, 4(x11)
-    .word 0x00250633  # add x12, x10, x2
-    .word 0x02464603  # lbu x12, 36(x12)
+    .word 0x00250733  # add x14, x10, x2
+    .word 0x00474583  # lbu x11, 4(x14)
+    .word 0x02474603  # lbu x12, 36(x14)
     .word 0x00c5c2b3  # xor x5, x11, x12
     .word 0x0092f6b3  # and x13, x5, x9
-    .word 0x00d5c333  # xor x6, x11, x13
-    .word 0x002502b3  # add x5, x10, x2
-    .word 0x00628223  # sb x6, 4(x5)
-    .word 0x00d64333  # xor x6, x12, x13
-    .word 0x002502b3  # add x5, x10, x2
-    .word 0x02628223  # sb x6, 36(x5)
+    .word 0x00d5c2b3  # xor x5, x11, x13
+    .word 0x00570223  # sb x5, 4(x14)
+    .word 0x00d642b3  # xor x5, x12, x13
+    .word 0x02570223  # sb x5, 36(x14)
     .word 0x00150513  # addi x10, x10, 1
+    .word 0x00250733  # add x14, x10, x2
     .word 0x02053293  # sltiu x5, x10, 32
-    .word 0xfc0294e3  # bne x5, x0, -56
+    .word 0xfc029ae3  # bne x5, x0, -44
     .word 0xfff50513  # addi x10, x10, -1
+    .word 0x00250733  # add x14, x10, x2
     # the result
     .word 0x00000513  # addi x10, x0, 0
     # parameter 1: the array, back

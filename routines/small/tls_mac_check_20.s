@@ -1,4 +1,4 @@
-# tls_mac_check_20: made by factc 1.0.0 function; 175 words, 512 bytes of stack, profile 1
+# tls_mac_check_20: made by factc 1.0.0 function; 191 words, 528 bytes of stack, profile 1
     .option push
     .option norvc
     .option norelax
@@ -10,21 +10,25 @@
 tls_mac_check_20:
     .cfi_startproc
     # room above the frame
-    .word 0xff010113  # addi x2, x2, -16
-    .cfi_def_cfa_offset 16
+    .word 0xfe010113  # addi x2, x2, -32
+    .cfi_def_cfa_offset 32
     # the caller's registers
-    .word 0x00812023  # sw x8, 0(x2)
-    .cfi_offset 8, -16
-    .word 0x01212223  # sw x18, 4(x2)
-    .cfi_offset 18, -12
-    .word 0x01312423  # sw x19, 8(x2)
-    .cfi_offset 19, -8
-    .word 0x01412623  # sw x20, 12(x2)
-    .cfi_offset 20, -4
+    .word 0x01212023  # sw x18, 0(x2)
+    .cfi_offset 18, -32
+    .word 0x01312223  # sw x19, 4(x2)
+    .cfi_offset 19, -28
+    .word 0x01412423  # sw x20, 8(x2)
+    .cfi_offset 20, -24
+    .word 0x01512623  # sw x21, 12(x2)
+    .cfi_offset 21, -20
+    .word 0x01612823  # sw x22, 16(x2)
+    .cfi_offset 22, -16
+    .word 0x01712a23  # sw x23, 20(x2)
+    .cfi_offset 23, -12
     # arguments that are needed behind the body
     # the frame's base
     .word 0xe1010113  # addi x2, x2, -496
-    .cfi_def_cfa 2, 512
+    .cfi_def_cfa 2, 528
     # parameter 0: an array
     .word 0x00050293  # addi x5, x10, 0
     .word 0x00010313  # addi x6, x2, 0
@@ -55,6 +59,12 @@ tls_mac_check_20:
     .word 0x00000913  # addi x18, x0, 0
     .word 0x00000993  # addi x19, x0, 0
     .word 0x00000a13  # addi x20, x0, 0
+    .word 0x00271a93  # slli x21, x14, 2
+    .word 0x002a8ab3  # add x21, x21, x2
+    .word 0x00291b13  # slli x22, x18, 2
+    .word 0x002b0b33  # add x22, x22, x2
+    .word 0x00299b93  # slli x23, x19, 2
+    .word 0x002b8bb3  # add x23, x23, x2
     .word 0x10400293  # addi x5, x0, 260
     .word 0x40a285b3  # sub x11, x5, x10
     .word 0x13000313  # addi x6, x0, 304
@@ -70,34 +80,36 @@ tls_mac_check_20:
     .word 0x00000613  # addi x12, x0, 0
     .word 0x00000693  # addi x13, x0, 0
     .word 0x00000713  # addi x14, x0, 0
+    .word 0x00271a93  # slli x21, x14, 2
+    .word 0x002a8ab3  # add x21, x21, x2
     .word 0x01400293  # addi x5, x0, 20
     .word 0x02d282b3  # mul x5, x5, x13
     .word 0x00e287b3  # add x15, x5, x14
-    .word 0x00271313  # slli x6, x14, 2
-    .word 0x00230333  # add x6, x6, x2
-    .word 0x13032303  # lw x6, 304(x6)
-    .word 0x002783b3  # add x7, x15, x2
-    .word 0x0003c383  # lbu x7, 0(x7)
-    .word 0x40b78433  # sub x8, x15, x11
-    .word 0x01443413  # sltiu x8, x8, 20
-    .word 0x40800433  # sub x8, x0, x8
-    .word 0x0083f3b3  # and x7, x7, x8
-    .word 0x00736333  # or x6, x6, x7
-    .word 0x00271293  # slli x5, x14, 2
-    .word 0x002282b3  # add x5, x5, x2
-    .word 0x1262a823  # sw x6, 304(x5)
+    .word 0x130aa283  # lw x5, 304(x21)
+    .word 0x00278333  # add x6, x15, x2
+    .word 0x00034303  # lbu x6, 0(x6)
+    .word 0x40b783b3  # sub x7, x15, x11
+    .word 0x0143b393  # sltiu x7, x7, 20
+    .word 0x407003b3  # sub x7, x0, x7
+    .word 0x00737333  # and x6, x6, x7
+    .word 0x0062e2b3  # or x5, x5, x6
+    .word 0x125aa823  # sw x5, 304(x21)
     .word 0x40b783b3  # sub x7, x15, x11
     .word 0x0013b393  # sltiu x7, x7, 1
     .word 0x407003b3  # sub x7, x0, x7
     .word 0x00777333  # and x6, x14, x7
     .word 0x00666633  # or x12, x12, x6
     .word 0x00170713  # addi x14, x14, 1
+    .word 0x00271a93  # slli x21, x14, 2
+    .word 0x002a8ab3  # add x21, x21, x2
     .word 0x01473293  # sltiu x5, x14, 20
-    .word 0xfa0292e3  # bne x5, x0, -92
+    .word 0xfa0296e3  # bne x5, x0, -84
     .word 0xfff70713  # addi x14, x14, -1
+    .word 0x00271a93  # slli x21, x14, 2
+    .word 0x002a8ab3  # add x21, x21, x2
     .word 0x00168693  # addi x13, x13, 1
     .word 0x00e6b293  # sltiu x5, x13, 14
-    .word 0xf80298e3  # bne x5, x0, -112
+    .word 0xf80294e3  # bne x5, x0, -120
     .word 0xfff68693  # addi x13, x13, -1
     .word 0x00000813  # addi x16, x0, 0
     .word 0x010652b3  # srl x5, x12, x16
@@ -115,42 +127,46 @@ tls_mac_check_20:
     .word 0x00430313  # addi x6, x6, 4
     .word 0xfedff06f  # jal x0, -20
     .word 0x00000913  # addi x18, x0, 0
-    .word 0x00291313  # slli x6, x18, 2
-    .word 0x00230333  # add x6, x6, x2
-    .word 0x13032303  # lw x6, 304(x6)
-    .word 0x00291293  # slli x5, x18, 2
-    .word 0x002282b3  # add x5, x5, x2
-    .word 0x1862a023  # sw x6, 384(x5)
+    .word 0x00291b13  # slli x22, x18, 2
+    .word 0x002b0b33  # add x22, x22, x2
+    .word 0x130b2283  # lw x5, 304(x22)
+    .word 0x185b2023  # sw x5, 384(x22)
     .word 0x00190913  # addi x18, x18, 1
+    .word 0x00291b13  # slli x22, x18, 2
+    .word 0x002b0b33  # add x22, x22, x2
     .word 0x01493293  # sltiu x5, x18, 20
-    .word 0xfe0290e3  # bne x5, x0, -32
+    .word 0xfe0294e3  # bne x5, x0, -24
     .word 0xfff90913  # addi x18, x18, -1
+    .word 0x00291b13  # slli x22, x18, 2
+    .word 0x002b0b33  # add x22, x22, x2
     .word 0x00000993  # addi x19, x0, 0
-    .word 0x00100413  # addi x8, x0, 1
-    .word 0x01041433  # sll x8, x8, x16
-    .word 0x008983b3  # add x7, x19, x8
-    .word 0x01400413  # addi x8, x0, 20
-    .word 0x0283f3b3  # remu x7, x7, x8
-    .word 0x00239393  # slli x7, x7, 2
-    .word 0x002383b3  # add x7, x7, x2
-    .word 0x1803a383  # lw x7, 384(x7)
-    .word 0x00299413  # slli x8, x19, 2
-    .word 0x00240433  # add x8, x8, x2
-    .word 0x18042403  # lw x8, 384(x8)
-    .word 0x41100333  # sub x6, x0, x17
-    .word 0x0083c3b3  # xor x7, x7, x8
-    .word 0x0063f3b3  # and x7, x7, x6
-    .word 0x00744333  # xor x6, x8, x7
-    .word 0x00299293  # slli x5, x19, 2
-    .word 0x002282b3  # add x5, x5, x2
-    .word 0x1262a823  # sw x6, 304(x5)
+    .word 0x00299b93  # slli x23, x19, 2
+    .word 0x002b8bb3  # add x23, x23, x2
+    .word 0x00100393  # addi x7, x0, 1
+    .word 0x010393b3  # sll x7, x7, x16
+    .word 0x00798333  # add x6, x19, x7
+    .word 0x01400393  # addi x7, x0, 20
+    .word 0x02737333  # remu x6, x6, x7
+    .word 0x00231313  # slli x6, x6, 2
+    .word 0x00230333  # add x6, x6, x2
+    .word 0x18032303  # lw x6, 384(x6)
+    .word 0x180ba383  # lw x7, 384(x23)
+    .word 0x411002b3  # sub x5, x0, x17
+    .word 0x00734333  # xor x6, x6, x7
+    .word 0x00537333  # and x6, x6, x5
+    .word 0x0063c2b3  # xor x5, x7, x6
+    .word 0x125ba823  # sw x5, 304(x23)
     .word 0x00198993  # addi x19, x19, 1
+    .word 0x00299b93  # slli x23, x19, 2
+    .word 0x002b8bb3  # add x23, x23, x2
     .word 0x0149b293  # sltiu x5, x19, 20
-    .word 0xfa0298e3  # bne x5, x0, -80
+    .word 0xfa029ce3  # bne x5, x0, -72
     .word 0xfff98993  # addi x19, x19, -1
+    .word 0x00299b93  # slli x23, x19, 2
+    .word 0x002b8bb3  # add x23, x23, x2
     .word 0x00180813  # addi x16, x16, 1
     .word 0x00583293  # sltiu x5, x16, 5
-    .word 0xf2029ce3  # bne x5, x0, -200
+    .word 0xf20294e3  # bne x5, x0, -216
     .word 0xfff80813  # addi x16, x16, -1
     .word 0x00000613  # addi x12, x0, 0
     .word 0x00000a13  # addi x20, x0, 0
@@ -175,16 +191,20 @@ tls_mac_check_20:
     # above the frame
     .word 0x1f010293  # addi x5, x2, 496
     # the caller's registers
-    .word 0x0002a403  # lw x8, 0(x5)
-    .cfi_restore 8
-    .word 0x0042a903  # lw x18, 4(x5)
+    .word 0x0002a903  # lw x18, 0(x5)
     .cfi_restore 18
-    .word 0x0082a983  # lw x19, 8(x5)
+    .word 0x0042a983  # lw x19, 4(x5)
     .cfi_restore 19
-    .word 0x00c2aa03  # lw x20, 12(x5)
+    .word 0x0082aa03  # lw x20, 8(x5)
     .cfi_restore 20
+    .word 0x00c2aa83  # lw x21, 12(x5)
+    .cfi_restore 21
+    .word 0x0102ab03  # lw x22, 16(x5)
+    .cfi_restore 22
+    .word 0x0142ab83  # lw x23, 20(x5)
+    .cfi_restore 23
     # the caller's x2
-    .word 0x01028293  # addi x5, x5, 16
+    .word 0x02028293  # addi x5, x5, 32
     .cfi_def_cfa 5, 0
     # all the room, wiped upward
     .word 0x00012023  # sw x0, 0(x2)

@@ -1,4 +1,4 @@
-# tls_mac_check_32: made by factc 1.0.0 function; 173 words, 624 bytes of stack, profile 1
+# tls_mac_check_32: made by factc 1.0.0 function; 189 words, 640 bytes of stack, profile 1
     .option push
     .option norvc
     .option norelax
@@ -10,21 +10,25 @@
 tls_mac_check_32:
     .cfi_startproc
     # room above the frame
-    .word 0xff010113  # addi x2, x2, -16
-    .cfi_def_cfa_offset 16
+    .word 0xfe010113  # addi x2, x2, -32
+    .cfi_def_cfa_offset 32
     # the caller's registers
-    .word 0x00812023  # sw x8, 0(x2)
-    .cfi_offset 8, -16
-    .word 0x01212223  # sw x18, 4(x2)
-    .cfi_offset 18, -12
-    .word 0x01312423  # sw x19, 8(x2)
-    .cfi_offset 19, -8
-    .word 0x01412623  # sw x20, 12(x2)
-    .cfi_offset 20, -4
+    .word 0x01212023  # sw x18, 0(x2)
+    .cfi_offset 18, -32
+    .word 0x01312223  # sw x19, 4(x2)
+    .cfi_offset 19, -28
+    .word 0x01412423  # sw x20, 8(x2)
+    .cfi_offset 20, -24
+    .word 0x01512623  # sw x21, 12(x2)
+    .cfi_offset 21, -20
+    .word 0x01612823  # sw x22, 16(x2)
+    .cfi_offset 22, -16
+    .word 0x01712a23  # sw x23, 20(x2)
+    .cfi_offset 23, -12
     # arguments that are needed behind the body
     # the frame's base
     .word 0xda010113  # addi x2, x2, -608
-    .cfi_def_cfa 2, 624
+    .cfi_def_cfa 2, 640
     # parameter 0: an array
     .word 0x00050293  # addi x5, x10, 0
     .word 0x00010313  # addi x6, x2, 0
@@ -55,6 +59,12 @@ tls_mac_check_32:
     .word 0x00000913  # addi x18, x0, 0
     .word 0x00000993  # addi x19, x0, 0
     .word 0x00000a13  # addi x20, x0, 0
+    .word 0x00271a93  # slli x21, x14, 2
+    .word 0x002a8ab3  # add x21, x21, x2
+    .word 0x00291b13  # slli x22, x18, 2
+    .word 0x002b0b33  # add x22, x22, x2
+    .word 0x00299b93  # slli x23, x19, 2
+    .word 0x002b8bb3  # add x23, x23, x2
     .word 0x10000293  # addi x5, x0, 256
     .word 0x40a285b3  # sub x11, x5, x10
     .word 0x14400313  # addi x6, x0, 324
@@ -70,33 +80,35 @@ tls_mac_check_32:
     .word 0x00000613  # addi x12, x0, 0
     .word 0x00000693  # addi x13, x0, 0
     .word 0x00000713  # addi x14, x0, 0
+    .word 0x00271a93  # slli x21, x14, 2
+    .word 0x002a8ab3  # add x21, x21, x2
     .word 0x00569293  # slli x5, x13, 5
     .word 0x00e287b3  # add x15, x5, x14
-    .word 0x00271313  # slli x6, x14, 2
-    .word 0x00230333  # add x6, x6, x2
-    .word 0x14432303  # lw x6, 324(x6)
-    .word 0x002783b3  # add x7, x15, x2
-    .word 0x0003c383  # lbu x7, 0(x7)
-    .word 0x40b78433  # sub x8, x15, x11
-    .word 0x02043413  # sltiu x8, x8, 32
-    .word 0x40800433  # sub x8, x0, x8
-    .word 0x0083f3b3  # and x7, x7, x8
-    .word 0x00736333  # or x6, x6, x7
-    .word 0x00271293  # slli x5, x14, 2
-    .word 0x002282b3  # add x5, x5, x2
-    .word 0x1462a223  # sw x6, 324(x5)
+    .word 0x144aa283  # lw x5, 324(x21)
+    .word 0x00278333  # add x6, x15, x2
+    .word 0x00034303  # lbu x6, 0(x6)
+    .word 0x40b783b3  # sub x7, x15, x11
+    .word 0x0203b393  # sltiu x7, x7, 32
+    .word 0x407003b3  # sub x7, x0, x7
+    .word 0x00737333  # and x6, x6, x7
+    .word 0x0062e2b3  # or x5, x5, x6
+    .word 0x145aa223  # sw x5, 324(x21)
     .word 0x40b783b3  # sub x7, x15, x11
     .word 0x0013b393  # sltiu x7, x7, 1
     .word 0x407003b3  # sub x7, x0, x7
     .word 0x00777333  # and x6, x14, x7
     .word 0x00666633  # or x12, x12, x6
     .word 0x00170713  # addi x14, x14, 1
+    .word 0x00271a93  # slli x21, x14, 2
+    .word 0x002a8ab3  # add x21, x21, x2
     .word 0x02073293  # sltiu x5, x14, 32
-    .word 0xfa0294e3  # bne x5, x0, -88
+    .word 0xfa0298e3  # bne x5, x0, -80
     .word 0xfff70713  # addi x14, x14, -1
+    .word 0x00271a93  # slli x21, x14, 2
+    .word 0x002a8ab3  # add x21, x21, x2
     .word 0x00168693  # addi x13, x13, 1
     .word 0x0096b293  # sltiu x5, x13, 9
-    .word 0xf8029ae3  # bne x5, x0, -108
+    .word 0xf80296e3  # bne x5, x0, -116
     .word 0xfff68693  # addi x13, x13, -1
     .word 0x00000813  # addi x16, x0, 0
     .word 0x010652b3  # srl x5, x12, x16
@@ -114,41 +126,45 @@ tls_mac_check_32:
     .word 0x00430313  # addi x6, x6, 4
     .word 0xfedff06f  # jal x0, -20
     .word 0x00000913  # addi x18, x0, 0
-    .word 0x00291313  # slli x6, x18, 2
-    .word 0x00230333  # add x6, x6, x2
-    .word 0x14432303  # lw x6, 324(x6)
-    .word 0x00291293  # slli x5, x18, 2
-    .word 0x002282b3  # add x5, x5, x2
-    .word 0x1c62a223  # sw x6, 452(x5)
+    .word 0x00291b13  # slli x22, x18, 2
+    .word 0x002b0b33  # add x22, x22, x2
+    .word 0x144b2283  # lw x5, 324(x22)
+    .word 0x1c5b2223  # sw x5, 452(x22)
     .word 0x00190913  # addi x18, x18, 1
+    .word 0x00291b13  # slli x22, x18, 2
+    .word 0x002b0b33  # add x22, x22, x2
     .word 0x02093293  # sltiu x5, x18, 32
-    .word 0xfe0290e3  # bne x5, x0, -32
+    .word 0xfe0294e3  # bne x5, x0, -24
     .word 0xfff90913  # addi x18, x18, -1
+    .word 0x00291b13  # slli x22, x18, 2
+    .word 0x002b0b33  # add x22, x22, x2
     .word 0x00000993  # addi x19, x0, 0
-    .word 0x00100413  # addi x8, x0, 1
-    .word 0x01041433  # sll x8, x8, x16
-    .word 0x008983b3  # add x7, x19, x8
-    .word 0x01f3f393  # andi x7, x7, 31
-    .word 0x00239393  # slli x7, x7, 2
-    .word 0x002383b3  # add x7, x7, x2
-    .word 0x1c43a383  # lw x7, 452(x7)
-    .word 0x00299413  # slli x8, x19, 2
-    .word 0x00240433  # add x8, x8, x2
-    .word 0x1c442403  # lw x8, 452(x8)
-    .word 0x41100333  # sub x6, x0, x17
-    .word 0x0083c3b3  # xor x7, x7, x8
-    .word 0x0063f3b3  # and x7, x7, x6
-    .word 0x00744333  # xor x6, x8, x7
-    .word 0x00299293  # slli x5, x19, 2
-    .word 0x002282b3  # add x5, x5, x2
-    .word 0x1462a223  # sw x6, 324(x5)
+    .word 0x00299b93  # slli x23, x19, 2
+    .word 0x002b8bb3  # add x23, x23, x2
+    .word 0x00100393  # addi x7, x0, 1
+    .word 0x010393b3  # sll x7, x7, x16
+    .word 0x00798333  # add x6, x19, x7
+    .word 0x01f37313  # andi x6, x6, 31
+    .word 0x00231313  # slli x6, x6, 2
+    .word 0x00230333  # add x6, x6, x2
+    .word 0x1c432303  # lw x6, 452(x6)
+    .word 0x1c4ba383  # lw x7, 452(x23)
+    .word 0x411002b3  # sub x5, x0, x17
+    .word 0x00734333  # xor x6, x6, x7
+    .word 0x00537333  # and x6, x6, x5
+    .word 0x0063c2b3  # xor x5, x7, x6
+    .word 0x145ba223  # sw x5, 324(x23)
     .word 0x00198993  # addi x19, x19, 1
+    .word 0x00299b93  # slli x23, x19, 2
+    .word 0x002b8bb3  # add x23, x23, x2
     .word 0x0209b293  # sltiu x5, x19, 32
-    .word 0xfa029ae3  # bne x5, x0, -76
+    .word 0xfa029ee3  # bne x5, x0, -68
     .word 0xfff98993  # addi x19, x19, -1
+    .word 0x00299b93  # slli x23, x19, 2
+    .word 0x002b8bb3  # add x23, x23, x2
     .word 0x00180813  # addi x16, x16, 1
     .word 0x00583293  # sltiu x5, x16, 5
-    .word 0xf2029ee3  # bne x5, x0, -196
+    .word 0xf20296e3  # bne x5, x0, -212
     .word 0xfff80813  # addi x16, x16, -1
     .word 0x00000613  # addi x12, x0, 0
     .word 0x00000a13  # addi x20, x0, 0
@@ -173,16 +189,20 @@ tls_mac_check_32:
     # above the frame
     .word 0x26010293  # addi x5, x2, 608
     # the caller's registers
-    .word 0x0002a403  # lw x8, 0(x5)
-    .cfi_restore 8
-    .word 0x0042a903  # lw x18, 4(x5)
+    .word 0x0002a903  # lw x18, 0(x5)
     .cfi_restore 18
-    .word 0x0082a983  # lw x19, 8(x5)
+    .word 0x0042a983  # lw x19, 4(x5)
     .cfi_restore 19
-    .word 0x00c2aa03  # lw x20, 12(x5)
+    .word 0x0082aa03  # lw x20, 8(x5)
     .cfi_restore 20
+    .word 0x00c2aa83  # lw x21, 12(x5)
+    .cfi_restore 21
+    .word 0x0102ab03  # lw x22, 16(x5)
+    .cfi_restore 22
+    .word 0x0142ab83  # lw x23, 20(x5)
+    .cfi_restore 23
     # the caller's x2
-    .word 0x01028293  # addi x5, x5, 16
+    .word 0x02028293  # addi x5, x5, 32
     .cfi_def_cfa 5, 0
     # all the room, wiped upward
     .word 0x00012023  # sw x0, 0(x2)
