@@ -1,12 +1,13 @@
 -- Straight code keeps the bounds of the body that it is made for.
 use Rattle.std.proofs.Common.{◌≡◌, ℕ, ◌+◌, ◌*◌, ◌≤◌, List, [], ◌∷◌, Option, None, Some, max, slice_index, arith}
-use Rattle.std.proofs.Math.Nat.{max-le, mul-le-mul_left}
+use Rattle.std.proofs.Math.Nat.{max-le}
+use Rattle.std.proofs.lemmas.Nat.{mul-le}
 use Rattle.branch_removal.specs.Below.{array, assign, body_nodes, body_work, branch, declare, first, FlatBlock}
 use Rattle.branch_removal.specs.Below.{FlatProgram, FlatTree, hold, IsSized, loop, most_nodes, most_work, nothing}
-use Rattle.branch_removal.specs.Below.{Public, put, ranged, Secret, skip, term_nodes, terms_nodes, TermTree, tree_nodes}
+use Rattle.branch_removal.specs.Below.{Public, put, ranged, Secret, term_nodes, terms_nodes, TermTree, tree_nodes}
 use Rattle.branch_removal.specs.Below.{tree_work, value_nodes}
 use Rattle.inline.specs.Flat as flat
-use Rattle.branch_removal.specs.Bounds.{statement_nodes, block_nodes, block_work, set_work}
+use Rattle.branch_removal.specs.Bounds.{statement_nodes, block_nodes, block_work, iterations_counted}
 use Rattle.branch_removal.specs.Bounds.{IsBounded, IsCounted}
 use Rattle.branch_removal.specs.Heights.{height_of, height_of_all, height_in, height_in_all, depth_in, depth_in_all}
 use Rattle.branch_removal.specs.Heights.{result_height}
@@ -45,9 +46,11 @@ taken-chain (straight.first statement these) those = omega (arith, taken-chain t
 
 -- What is removed adds nothing.
 
-set_little : (within : Option ℕ) (value : TermTree) → set_work within value ≤ 1 + term_nodes value
-set_little None (flat.number value kind) = omega arith
-set_little within value = omega arith
+-- no more iterations are counted for a loop than for its counter
+few_iterations : (most : List ℕ) (x : ℕ) (low high : TermTree)
+    → iterations_counted most x low high ≤ slice_index most x
+few_iterations most x (flat.number low kind) (flat.number high other) = omega arith
+few_iterations most x low high = omega arith
 
 -- what two parts take at most
 most_of_two : (a b m n : ℕ) → a ≤ 2 * m → b ≤ 2 * n → max a b ≤ 2 * (m + n)
@@ -80,11 +83,11 @@ module _ (most : List ℕ) where
     fits : (within : Option ℕ) (control : ℕ) (s : FlatTree)
         → IsNoLarger most (tree_nodes s) (tree_work most s) (controls_in s) (removed within control s)
     fits within control (declare x word mutable value) =
-        record { few_nodes = omega arith; few_work = omega (arith, set_little None value); taken = omega arith }
+        record { few_nodes = omega arith; few_work = omega arith; taken = omega arith }
     fits within control (assign x value) =
-        record { few_nodes = omega arith; few_work = omega (arith, set_little within value); taken = omega arith }
+        record { few_nodes = omega arith; few_work = omega arith; taken = omega arith }
     fits within control (hold x place size index) =
-        record { few_nodes = omega arith; few_work = omega (arith, set_little None index); taken = omega arith }
+        record { few_nodes = omega arith; few_work = omega arith; taken = omega arith }
     fits within control (branch Secret condition accepted otherwise) =
         let arms = fits_chain (removed_all (Some control) (control + 2) accepted)
         (removed_all (Some (control + 1)) (control + 2) otherwise)
@@ -109,9 +112,12 @@ module _ (most : List ℕ) where
         let inner = fits_all within control body in
         let few = inner.few_nodes in
         let some = inner.few_work in
-        let iterations : (slice_index most x + 1) * (1 + block_work most (removed_all within control body))
+        let iterations : (iterations_counted most x low high + 1)
+        * (1 + block_work most (removed_all within control body))
         ≤ (slice_index most x + 1) * (1 + body_work most body) =
-        mul-le-mul_left (slice_index most x + 1) (omega (arith, some)) in
+        mul-le (iterations_counted most x low high + 1) (1 + block_work most (removed_all within control body))
+        (slice_index most x + 1) (1 + body_work most body) (omega (arith, few_iterations most x low high))
+        (omega (arith, some)) in
         let taken = inner.taken in
         record { few_nodes = omega (arith, few); few_work = omega (arith, iterations); taken = omega (arith, taken) }
     fits within control other = record { few_nodes = omega arith; few_work = omega arith; taken = omega arith }

@@ -1,5 +1,5 @@
 -- How large straight code is and how much work it is, and the bounds that it keeps.
-use Rattle.std.specs.Prelude.{ℕ, ◌+◌, ◌*◌, ◌≤◌, List, Option, None, map, slice_index}
+use Rattle.std.specs.Prelude.{ℕ, ◌+◌, ◌-◌, ◌*◌, ◌/◌, ◌≤◌, List, map, min, slice_index}
 use Rattle.std.specs.List.{AllByRecursion}
 use Rattle.branch_removal.specs.Below.{declaration_of, declared_words, HasLength, most_declared_bytes, most_nodes}
 use Rattle.branch_removal.specs.Below.{most_variable_bytes, most_work, number, Param, term_nodes, terms_nodes, TermTree}
@@ -23,22 +23,29 @@ abbrev mutual
   block_nodes nothing = 0
   block_nodes (first statement rest) = statement_nodes statement + block_nodes rest
 
--- the work of setting a word: a number needs none of its own where no control value decides
-abbrev pub set_work : Option ℕ → TermTree → ℕ
-set_work None (number value kind) = 1
-set_work within value = 1 + term_nodes value
+-- A run takes at most 32 steps for a unit of work, and at most 16 for a node of an expression.
+
+-- the work of what evaluates so many nodes: half a unit for each, and one for what is made of their values
+abbrev pub nodes_work : ℕ → ℕ
+nodes_work nodes = 1 + nodes / 2
+
+-- how many iterations are counted for a loop: those of its counter, and no more than lie between two numbers
+abbrev pub iterations_counted : List ℕ → ℕ → TermTree → TermTree → ℕ
+iterations_counted iterations x (number low kind) (number high other) = min (high - low) (slice_index iterations x)
+iterations_counted iterations x low high = slice_index iterations x
 
 abbrev mutual
   -- the work of a statement, with the iterations that are counted for each counter: an array is as much as its elements
   pub statement_work : List ℕ → StraightTree → ℕ
-  statement_work iterations (set within x value) = set_work within value
+  statement_work iterations (set within x value) = nodes_work (term_nodes value)
   statement_work iterations (array x size values) = 1 + size + terms_nodes values
-  statement_work iterations (put within place x size index value) = 1 + (1 + term_nodes index) + term_nodes value
-  statement_work iterations (take control within condition) = 1 + term_nodes condition
+  statement_work iterations (put within place x size index value) = nodes_work (term_nodes index + term_nodes value)
+  statement_work iterations (take control within condition) = nodes_work (term_nodes condition)
   statement_work iterations (branch condition accepted otherwise) =
-      1 + term_nodes condition + block_work iterations accepted + block_work iterations otherwise
+      nodes_work (term_nodes condition) + block_work iterations accepted + block_work iterations otherwise
   statement_work iterations (repeats x low high body) =
-      term_nodes low + term_nodes high + (slice_index iterations x + 1) * (1 + block_work iterations body)
+      term_nodes low + term_nodes high
+      + (iterations_counted iterations x low high + 1) * (1 + block_work iterations body)
 
   pub block_work : List ℕ → StraightBlock → ℕ
   block_work iterations nothing = 0

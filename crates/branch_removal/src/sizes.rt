@@ -1,14 +1,14 @@
 // How large straight code is: what `StraightCode` asks of other statements before it takes them. A count stops at the
-// greatest number of 64 bits.
+// greatest number of 64 bits, and one of work, which takes half of that, is exact below 63 bits.
 
-ghost use Rattle.std.specs.Prelude.{◌≡◌, ◌+◌, ◌*◌, ◌^◌, ◌<◌, map, max, slice_index};
+ghost use Rattle.std.specs.Prelude.{◌≡◌, ◌+◌, ◌*◌, ◌^◌, ◌<◌, map, max};
 ghost use Rattle.std.specs.Option.{option_map};
 ghost use Rattle.branch_removal.specs.Below.{declared_words, term_nodes, term_tree, terms_nodes, value_nodes, words_of};
-ghost use Rattle.branch_removal.specs.Bounds.{block_work, set_work, statement_work};
+ghost use Rattle.branch_removal.specs.Bounds.{block_work, iterations_counted, nodes_work, statement_work};
 ghost use Rattle.branch_removal.specs.Heights.{depth_in, depth_in_all, height_in, height_in_all, height_of};
 ghost use Rattle.branch_removal.specs.Heights.{height_of_all, result_height};
 ghost use Rattle.branch_removal.specs.Straight.{straight_tree, straight_block};
-ghost use Rattle.branch_removal.specs.private.Counts.{counted};
+ghost use Rattle.branch_removal.specs.private.Counts.{counted, told};
 
 use crate::StraightStatement;
 use inline::{FlatVariable, Term};
@@ -82,7 +82,7 @@ fn height(term: &Term) -> u64
 /// How large code is.
 #[derive(Clone, Copy)]
 pub struct StraightSize {
-    /// How many nodes a run evaluates at most.
+    /// How much work a run is at most.
     pub work: u64,
     /// How many temporaries there are at once, beside the first.
     pub height: u64,
@@ -109,36 +109,34 @@ fn size_of_all(terms: &[Term]) -> StraightSize
     }
 }
 
-/// The work of setting a word: a number needs none of its own where no control value decides.
-fn set_work(within: Option<u32>, value: &Term) -> u64
-    ensures { result ≡ counted (set_work within (term_tree value.now)) }
+/// The work of what evaluates so many nodes.
+fn nodes_work(nodes: u64) -> u64
+    ensures { result ≡ nodes_work nodes }
 {
-    match within {
-        Some(_) => term_nodes(value).saturating_add(1),
-        None => match value {
-            Term::Number(_, _) => 1,
-            _ => term_nodes(value).saturating_add(1),
-        },
-    }
+    nodes / 2 + 1
 }
 
-/// How many iterations are counted for the loop of a counter.
-fn iterations_of(iterations: &[u32], counter: u32) -> u64
-    ensures { result ≡ slice_index iterations.now counter }
+/// How many iterations are counted for a loop: those of its counter, and no more than lie between two numbers.
+fn iterations_counted(iterations: &[u32], counter: u32, low: &Term, high: &Term) -> u32
+    ensures { result ≡ iterations_counted iterations.now counter (term_tree low.now) (term_tree high.now) }
 {
-    u64::from(iterations.get(counter as usize).copied().unwrap_or(0))
+    let most = iterations.get(counter as usize).copied().unwrap_or(0);
+    match (low, high) {
+        (Term::Number(low, _), Term::Number(high, _)) => high.saturating_sub(*low).min(most),
+        _ => most,
+    }
 }
 
 /// How large a branch is, by its condition and its arms.
 fn branch_size(condition: &Term, accepted: StraightSize, otherwise: StraightSize) -> StraightSize
-    ensures work { result.work ≡ counted (1 + term_nodes (term_tree condition.now) + accepted.work + otherwise.work) }
+    ensures work { told result.work
+        ≡ told (nodes_work (term_nodes (term_tree condition.now)) + accepted.work + otherwise.work) }
     ensures height { result.height
         ≡ max (counted (height_of (term_tree condition.now))) (max accepted.height otherwise.height) }
     ensures depth { result.depth ≡ max accepted.depth otherwise.depth }
 {
     StraightSize {
-        work: term_nodes(condition)
-            .saturating_add(1)
+        work: nodes_work(term_nodes(condition))
             .saturating_add(accepted.work)
             .saturating_add(otherwise.work),
         height: height(condition).max(accepted.height.max(otherwise.height)),
@@ -173,13 +171,13 @@ fn loop_size(iterations: u64, low: &Term, high: &Term, iteration: StraightSize) 
 /// How large a statement is, with so many iterations for the loop of each counter.
 #[cycle(sizes)]
 fn statement_size(iterations: &[u32], statement: &StraightStatement) -> StraightSize
-    ensures work { result.work ≡ counted (statement_work iterations.now (straight_tree statement.now)) }
+    ensures work { told result.work ≡ told (statement_work iterations.now (straight_tree statement.now)) }
     ensures height { result.height ≡ counted (height_in (straight_tree statement.now)) }
     ensures depth { result.depth ≡ counted (depth_in (straight_tree statement.now)) }
 {
     match statement {
-        StraightStatement::Set(within, _, value) => StraightSize {
-            work: set_work(*within, value),
+        StraightStatement::Set(_, _, value) => StraightSize {
+            work: nodes_work(term_nodes(value)),
             height: height(value),
             depth: 0,
         },
@@ -192,14 +190,12 @@ fn statement_size(iterations: &[u32], statement: &StraightStatement) -> Straight
             }
         }
         StraightStatement::Put(_, _, _, _, index, value) => StraightSize {
-            work: term_nodes(index)
-                .saturating_add(term_nodes(value))
-                .saturating_add(2),
+            work: nodes_work(term_nodes(index).saturating_add(term_nodes(value))),
             height: height(index).max(height(value).saturating_add(1)),
             depth: 0,
         },
         StraightStatement::Take(_, _, condition) => StraightSize {
-            work: term_nodes(condition).saturating_add(1),
+            work: nodes_work(term_nodes(condition)),
             height: height(condition),
             depth: 0,
         },
@@ -210,7 +206,8 @@ fn statement_size(iterations: &[u32], statement: &StraightStatement) -> Straight
         }
         StraightStatement::Repeat(counter, low, high, body) => {
             let iteration = block_size(iterations, body);
-            loop_size(iterations_of(iterations, *counter), low, high, iteration)
+            let count = iterations_counted(iterations, *counter, low, high);
+            loop_size(u64::from(count), low, high, iteration)
         }
     }
 }
@@ -218,7 +215,7 @@ fn statement_size(iterations: &[u32], statement: &StraightStatement) -> Straight
 /// How large statements are, one after the other.
 #[cycle(sizes)]
 pub fn block_size(iterations: &[u32], statements: &[StraightStatement]) -> StraightSize
-    ensures work { result.work ≡ counted (block_work iterations.now (straight_block statements.now)) }
+    ensures work { told result.work ≡ told (block_work iterations.now (straight_block statements.now)) }
     ensures height { result.height ≡ counted (height_in_all (straight_block statements.now)) }
     ensures depth { result.depth ≡ counted (depth_in_all (straight_block statements.now)) }
 {

@@ -222,7 +222,7 @@ impl<'f> StraightCode<'f> {
         self.nodes
     }
 
-    /// How many nodes a run evaluates at most.
+    /// How much work a run is at most: that of the source.
     pub fn work(&self) -> u64
         ensures { result ≡ self.now.work }
     {

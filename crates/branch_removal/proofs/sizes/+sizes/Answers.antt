@@ -1,10 +1,10 @@
-use Rattle.std.proofs.Common.{rules, ◌+◌, slice_index, refl, ap, arith}
-use Rattle.branch_removal.specs.Bounds.{block_work, statement_work}
+use Rattle.std.proofs.Common.{rules, ◌+◌, refl, ap, arith}
+use Rattle.branch_removal.specs.Bounds.{block_work, iterations_counted, statement_work}
 use Rattle.branch_removal.specs.Heights.{depth_in, height_in}
 use Rattle.branch_removal.specs.Straight.{straight_block}
 use Rattle.branch_removal.proofs.StatementTrees.{tree_of_branch, tree_of_loop, accepted_smaller, otherwise_smaller}
 use Rattle.branch_removal.proofs.StatementTrees.{body_smaller, item_here, smaller_here}
-use Rattle.branch_removal.proofs.CheckedSizes.{iterations_counted}
+use Rattle.branch_removal.proofs.CheckedSizes.{loop_counted}
 use Rattle.branch_removal.specs.Below.{term_nodes, term_tree}
 use Rattle.branch_removal.proofs.sizes.+sizes.Goals as goal
 
@@ -56,10 +56,10 @@ statement_size-returns-in-Repeat-clause-work t c =
     let tree = tree_of_loop r.body r.is c.deref-in-Repeat.ensures.value in
     let iterations = c.args.iterations.now in
     let body = straight_block c.deref-in-Repeat.result.now in
-    rw (c.loop_size.ensures.work, c.iterations_of.ensures, c.block_size-iteration.ensures.work, tree)
-    (iterations_counted (term_nodes (term_tree r.low) + term_nodes (term_tree r.high))
-    (slice_index iterations r.counter)
-    (block_work iterations body))
+    rw (c.loop_size.ensures.work, c.from-in-Repeat.ensures, c.iterations_counted-count.ensures, tree)
+    (loop_counted (term_nodes (term_tree r.low) + term_nodes (term_tree r.high))
+    (iterations_counted iterations r.counter (term_tree r.low) (term_tree r.high))
+    (block_work iterations body) c.block_size-iteration.result.work c.block_size-iteration.ensures.work)
 
 pub statement_size-returns-in-Repeat-clause-height : goal.statement_size-returns-in-Repeat-clause-height
 statement_size-returns-in-Repeat-clause-height t c =

@@ -2,7 +2,7 @@ use Rattle.std.proofs.Common.{◌≡◌, ◌≤◌, ◌+◌, ◌-◌, ◌*◌, �
 use Rattle.branch_removal.specs.Bounds.{block_nodes, block_work, statement_nodes}
 use Rattle.branch_removal.specs.Heights.{depth_in_all, height_in_all}
 use Rattle.branch_removal.specs.Straight.{straight_block, straight_tree}
-use Rattle.branch_removal.specs.private.Counts.{counted}
+use Rattle.branch_removal.specs.private.Counts.{counted, told}
 use Rattle.branch_removal.proofs.sizes.+sizes.Given as goal
 
 -- with what the statements left have, the counts are those of all
@@ -12,7 +12,7 @@ invariant-block_size-loop-statement l =
     let all = straight_block l.statements in
     record {
       few : l.work ≤ 2 ^ 64 - 1;
-      work : counted (l.work + block_work l.iterations rest) ≡ counted (block_work l.iterations all);
+      work : told (l.work + block_work l.iterations rest) ≡ told (block_work l.iterations all);
       height : max l.height (counted (height_in_all rest)) ≡ counted (height_in_all all);
       depth : max l.depth (counted (depth_in_all rest)) ≡ counted (depth_in_all all);
     }
