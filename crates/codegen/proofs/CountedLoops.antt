@@ -8,12 +8,13 @@ use Rattle.codegen.proofs.CountingRuns.{Guarded, HoldsNumber, guarded_runs, home
 use Rattle.codegen.proofs.CountingRuns.{iterations_runs}
 use Rattle.codegen.proofs.Language.{TermTree, word_as, value_in, path_in, iterations, path_of_iterations, Path, bounded}
 use Rattle.codegen.proofs.Language.{term_nodes, types_of, TermHasType, counter_type, StraightBlock, repeats}
+use Rattle.codegen.proofs.Language.{iterations_counted}
 use Rattle.codegen.proofs.Language.{StraightState, counted, after, after_all, path_at, path_along, word_of, Values}
-use Rattle.codegen.proofs.LoopRuns.{AtLoop, bounds_runs, is_left, next, next_inside, test_runs}
+use Rattle.codegen.proofs.LoopRuns.{AtLoop, bounds_runs, by_iterations, is_left, next, next_inside, test_runs}
 use Rattle.codegen.proofs.Logic.{lt-ltb, nat_tests, none-some, same_Some, HeldAt, Setting, setting, base_of, MarkKnown}
 use Rattle.codegen.proofs.Logic.{terms_at}
 use Rattle.codegen.proofs.Logic.{layout_of}
-use Rattle.codegen.proofs.Logic.{by_bounds, none, quiet, Runs, along, along_fit, seq, quietly, weaken, gives, cheaper, never}
+use Rattle.codegen.proofs.Logic.{none, quiet, Runs, along, along_fit, seq, quietly, weaken, gives, cheaper, never}
 use Rattle.codegen.proofs.Logic.{Ready, HomesKept, home_beside, homes_moved, number_or_zero, take, does, moves_run}
 use Rattle.codegen.proofs.Logic.{kept_less, register-at}
 use Rattle.codegen.proofs.Logic.{load_length}
@@ -96,9 +97,12 @@ module _ (z : Setting) (depth x h : ℕ) (within : depth < z.depths)
   abbrev With : (StraightState → machine.State → Type 0) → ℕ × ℕ → StraightState → machine.State → Type 0
   With P b = MarkKnown (setting z) (ℕ × ℕ) (λ c. c.1 - c.0 ≤ slice_index z.counts x) P bounds b
 
+  abbrev most : ℕ
+  most = iterations_counted z.counts x low high
+
   -- the cost of all iterations, with so many instructions in the test
   abbrev iterations_cost : ℕ → ℕ
-  iterations_cost c = slice_index z.counts x * (n + (3 + c) + 1)
+  iterations_cost c = most * (n + (3 + c) + 1)
 
   -- the code by which the counter's mirror follows it
   abbrev mirror : List Instr
@@ -149,7 +153,7 @@ module _ (z : Setting) (depth x h : ℕ) (within : depth < z.depths)
     abbrev guard_code : List Instr
     guard_code = below_number_code 6 start bound ++ guarded_code 6 h mirror start (below_number_code 5 h bound) ys
 
-    guard_at : (b : ℕ × ℕ) → b.1 - b.0 ≤ slice_index z.counts x
+    guard_at : (b : ℕ × ℕ) → b.1 - b.0 ≤ most
         → Runs z (1 + (2 + (3 + (iterations_cost 1 + 3)) + 0)) (λ env. path_by env (bounds env)) guard_code
         (With (FirstRead z low) b) Looped
     guard_at b few =
@@ -181,7 +185,7 @@ module _ (z : Setting) (depth x h : ℕ) (within : depth < z.depths)
         (compared z 6 start bound (omega arith) (omega arith) source.low (omega (arith, source.high)) is_short.small))
         (guarded_runs z depth x h known at 1 n limit (AtBound limit) body (λ s t hidden is. is) (limited limit)
         (number_tests limit) unset inner (round_near _ (omega arith)) 6 start (omega arith) (omega arith) source.low
-        (omega (arith, source.high)) (b.1 - b.0) b.0 refl (slice_index z.counts x) few)
+        (omega (arith, source.high)) (b.1 - b.0) b.0 refl most few)
         (λ env s t known done. done.0)))
 
     -- from any first number on
@@ -189,14 +193,14 @@ module _ (z : Setting) (depth x h : ℕ) (within : depth < z.depths)
         (λ env. path_in env.variables low ++ bounded x (bounds env).0 (bounds env).1 ∷ path_by env (bounds env))
         (read_code (layout_of z) 5 0 low ++ guard_code) (Ready z) Looped
     read_number_runs =
-        read_then z depth (omega (arith, within)) has_low room_low (by_bounds z x bounds guard_at)
+        read_then z depth (omega (arith, within)) has_low room_low (by_iterations z x low high guard_at)
 
     -- from a number below the bound on
 
     abbrev Counted : StraightState → machine.State → Type 0
     Counted env s = Ready z (counted x (value_in env.variables low) env) s
 
-    certain_at : (b : ℕ × ℕ) → is_below bound low ≡ true → b.1 - b.0 ≤ slice_index z.counts x → (left : ℕ)
+    certain_at : (b : ℕ × ℕ) → is_below bound low ≡ true → b.1 - b.0 ≤ most → (left : ℕ)
         → b.1 - b.0 ≡ left
         → Runs z (iterations_cost 1 + 3)
         (λ env. path_of_iterations left b.0 one_iteration (λ i e. path_along (counted x i e) body) env)
@@ -211,7 +215,7 @@ module _ (z : Setting) (depth x h : ℕ) (within : depth < z.depths)
         let less = below_is low bound below env.variables in omega (arith, is, first, second, less))
     certain_at b below few (suc left) is =
         let limit = b.0 + left + 1 in
-        let e = mul-le (left + 1) (n + (3 + 1) + 1) (slice_index z.counts x) (n + (3 + 1) + 1)
+        let e = mul-le (left + 1) (n + (3 + 1) + 1) most (n + (3 + 1) + 1)
         (omega (arith, few, is)) (omega arith) in
         cheaper (omega (arith, e))
         (weaken
@@ -245,7 +249,7 @@ module _ (z : Setting) (depth x h : ℕ) (within : depth < z.depths)
               (hidden_by z depth done.first.middle done.middle done.first.second.same)) done.second.hidden;
         })
         (seq (quiet (homed_runs z h is has_low room_low) (mirror_runs z x) (λ env s t ready done. done.held))
-        (by_bounds z x bounds (λ b few. along_fit (λ env s known. ap (path_by env) known.is)
+        (by_iterations z x low high (λ b few. along_fit (λ env s known. ap (path_by env) known.is)
         (gives (λ env s t fine known done. looped_by b env s t known.is done)
         (certain_at b below few (b.1 - b.0) refl))))
         (λ env s t ready done.
@@ -317,7 +321,7 @@ module _ (z : Setting) (depth x h : ℕ) (within : depth < z.depths)
     abbrev word_code : List Instr
     word_code = test_code words ++ guarded_code 5 h mirror 6 (below_word_code h words) ys
 
-    word_at : (b : ℕ × ℕ) → b.1 - b.0 ≤ slice_index z.counts x
+    word_at : (b : ℕ × ℕ) → b.1 - b.0 ≤ most
         → Runs z (7 + (2 + (3 + (iterations_cost 4 + 3)) + 0)) (λ env. path_by env (bounds env)) word_code
         (With Beginning b) Looped
     word_at b few =
@@ -352,7 +356,7 @@ module _ (z : Setting) (depth x h : ℕ) (within : depth < z.depths)
         (test_runs z depth within (b.1 - b.0) b.0))
         (guarded_runs z depth x h known at 4 n limit (InWord limit) body (word_kept limit) (λ bytes there. there.1)
         (word_tests limit) unset inner (round_near _ word_test_length) 5 6 (omega arith) (omega arith) (omega arith)
-        (omega arith) (b.1 - b.0) b.0 refl (slice_index z.counts x) few)
+        (omega arith) (b.1 - b.0) b.0 refl most few)
         (λ env s t known done. done.0)))
 
     pub to_word_runs : Runs z (16 * term_nodes low + 3 + (16 * term_nodes high + 3)
@@ -365,5 +369,6 @@ module _ (z : Setting) (depth x h : ℕ) (within : depth < z.depths)
           ready = done.second.ready;
           hidden = hidden_then z depth s done.middle t done.first.1 done.second.hidden;
         })
-        (seq (bounds_runs z depth within low high has_low has_high room_low room_high) (by_bounds z x bounds word_at)
+        (seq (bounds_runs z depth within low high has_low has_high room_low room_high)
+        (by_iterations z x low high word_at)
         (λ env s t ready begun. begun.0))

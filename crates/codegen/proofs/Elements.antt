@@ -3,7 +3,7 @@ use Rattle.std.proofs.Common.{◌≡◌, ℕ, ◌+◌, ◌*◌, ◌%◌, ◌^◌
 use Rattle.std.proofs.Common.{None, Some, slice_get, refl, sym, ap, ap₂, subst, ◌∙◌, arith, ◌≢◌, append_assoc, inl, inr}
 use Rattle.codegen.proofs.Language.{FlatVariable, StraightState, with_element, element_bytes, TermTree, array_as}
 use Rattle.codegen.proofs.Language.{term_nodes, value_in, path_in, indexed, WordType, Kind, Boolean, bits_of, Place}
-use Rattle.codegen.proofs.Language.{counter_type, TermHasType, holds, path_at, put, IsElementSet, types_of}
+use Rattle.codegen.proofs.Language.{counter_type, TermHasType, holds, nodes_work, path_at, put, IsElementSet, types_of}
 use Rattle.codegen.proofs.Logic.{register-at, lower_fits, Addressed, address_runs, array_lies, steps_of, kind_known}
 use Rattle.codegen.proofs.Logic.{HomesKept}
 use Rattle.codegen.proofs.Logic.{layout_of}
@@ -253,12 +253,12 @@ module _ (z : Setting) (access : ElementAccess z) where
     -- what code does that puts it
     abbrev pub Puts : List Instr → Type 0
     Puts code =
-        Runs z (32 * (1 + (1 + term_nodes access.index) + term_nodes value))
+        Runs z (32 * nodes_work (term_nodes access.index + term_nodes value))
         (λ env. path_at env (put within access.place access.x access.size access.index value)) code (Ready z)
         (StateShown z access.depth (λ env. put_with (number_of env) env))
 
     -- the code where its access reaches the element at once, and what that does at each index
-    module _ {n : ℕ} (few : n ≤ 32 * (1 + term_nodes value)) (code : NearPlace → List Instr)
+    module _ {n : ℕ} (few : n ≤ 16 * term_nodes value + 16) (code : NearPlace → List Instr)
         (one : (place : NearPlace) → Reached place → (i : ℕ) → i < access.size
         → Runs z n (steps_of value) (code place) (At i) (StateShown z access.depth (put_with i))) where
       near_runs : (place : NearPlace) → Reached place → Puts (code place)

@@ -27,7 +27,7 @@ use Rattle.codegen.proofs.Machine.{Allocation, AllReadKept, at_home, block_code,
 use Rattle.codegen.proofs.Machine.{far, height_in, height_in_all, height_of, home_count, home_of, InSlot, Instr}
 use Rattle.codegen.proofs.Machine.{number_at, ReadsKept, result_code, result_height, set_code, slots_to, statement_code}
 use Rattle.codegen.proofs.Machine.{variable_offset}
-use Rattle.codegen.proofs.SetRuns.{result_runs, set_cost, steps_of_result}
+use Rattle.codegen.proofs.SetRuns.{result_runs, steps_of_result}
 use Rattle.codegen.proofs.Arguments.{Left}
 use Rattle.codegen.proofs.Slots.{homed_runs, Laid, suits_fits}
 use Rattle.codegen.proofs.StatementRuns.{statement_runs}
@@ -276,7 +276,7 @@ module _ (z : Setting) where
         (ap₂ (λ (front back : List Instr). front ++ back)
         (ap (λ h. set_code (layout_of z) None (at_home h (InSlot (variable_offset z.laid x))) value) at ∙ sym same)
         (ap₂ mirror_by (sym (home_kept a left x off)) (sym own)))
-        (cheaper (omega (arith, set_cost value))
+        (cheaper (omega arith)
         (gives
         (λ env s t fine ready done.
         let m = done.middle in

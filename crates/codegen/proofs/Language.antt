@@ -1,7 +1,7 @@
 -- What straight code is made of and what it means, in one place: the words of the crates above the machine.
 pub use Rattle.language.specs.arguments.Within.{AreWithin, HasShape, IsWithin, greatest_of, words_of}
-pub use Rattle.branch_removal.specs.Bounds.{IsBounded, IsCounted, block_nodes, block_work, set_work, statement_nodes}
-pub use Rattle.branch_removal.specs.Bounds.{statement_work}
+pub use Rattle.branch_removal.specs.Bounds.{IsBounded, IsCounted, block_nodes, block_work, iterations_counted}
+pub use Rattle.branch_removal.specs.Bounds.{nodes_work, statement_nodes, statement_work}
 pub use Rattle.branch_removal.specs.Straight.{StraightBlock, StraightProgram, StraightTree, array, branch, first}
 pub use Rattle.branch_removal.specs.Straight.{nothing, put, repeats, set, straight_block, straight_row, straight_tree}
 pub use Rattle.branch_removal.specs.Straight.{take}

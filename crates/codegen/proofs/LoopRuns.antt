@@ -1,13 +1,14 @@
 -- The code of a loop.
 use Rattle.std.proofs.Common.{◌≡◌, ℕ, suc, ◌+◌, ◌-◌, ◌*◌, ◌%◌, ◌^◌, ◌<◌, ◌≤◌, false, nat_lt, List, [], ◌∷◌, ◌++◌}
 use Rattle.std.proofs.Common.{length, Option, None, Some, slice_get, slice_index, refl, sym, ap, ap₂, ◌∙◌, subst, arith, append-nil}
-use Rattle.std.proofs.Common.{inr}
+use Rattle.std.proofs.Common.{inl, inr}
 use Rattle.std.proofs.lemmas.Bool.Decides.{nat_tests}
 use Rattle.std.proofs.lemmas.Nat.{mul-le}
 use Rattle.codegen.proofs.CountingRuns.{count_same, home_low, moved_in, numbered}
 use Rattle.codegen.proofs.Language.{TermTree, word_as, value_in, path_in, iterations, path_of_iterations, Path, bounded}
 use Rattle.codegen.proofs.Language.{term_nodes, types_of, TermHasType, counter_type, StraightBlock, repeats}
 use Rattle.codegen.proofs.Language.{StraightState, counted, after, after_all, path_at, path_along, word_of}
+use Rattle.codegen.proofs.Language.{iterations_counted, Values}
 use Rattle.codegen.proofs.Machine.{mirror_by, mirror_code, mirror_of, bounds_code, test_code, count_code, loop_code, variable_offset, at_home, home_of}
 use Rattle.codegen.proofs.Machine.{InSlot, next_offset, slots_to, assign_code, variable_location, height_of, Instr}
 use Rattle.codegen.proofs.Machine.{Addi, Sltu, Sw, ByteMap, number_at, with_number, sum_of}
@@ -16,12 +17,14 @@ use Rattle.rv_machine.specs.Machine as machine
 use Rattle.codegen.proofs.Logic.{value_word, HeldAt, held_regs, take, put, does, move_runs, moves_run, number_or_zero}
 use Rattle.codegen.proofs.Logic.{layout_of}
 use Rattle.codegen.proofs.Logic.{Setting, setting, base_of, MarkKnown, by_bounds, none, Runs, Still, looping, along_fit}
+use Rattle.codegen.proofs.Logic.{After, Before, cases_lt, never, Steps}
 use Rattle.codegen.proofs.Logic.{as_code, mirror_register, seq, quiet, quietly, weaken, gives, cheaper, beside, Kept, Ready, Wrote, wrote_kept}
 use Rattle.codegen.proofs.Logic.{wrote_there, kept_number, kept_less, kept_then, ready_below, HomesKept, homes_by}
 use Rattle.codegen.proofs.Logic.{homes_computed, homes_moved, homes_then, computing_within, is_scratch, scratch_low}
 use Rattle.codegen.proofs.Slots.{StateShown, ready_with, ready_behind, word_before, stored, assigned, Hidden}
 use Rattle.codegen.proofs.Slots.{hidden_then, hidden_less, hidden_by, hidden_wrote, hidden_beyond, hidden_number}
 use Rattle.codegen.proofs.Slots.{other_number, ready_set}
+use Rattle.codegen.specs.Below.{number}
 use Rattle.codegen.specs.private.Words.{put_word_code}
 use Rattle.codegen.specs.expression_code.TermCode.{move_code}
 
@@ -55,6 +58,35 @@ is_left bound i left e = grind (arith, nat_tests, e)
 
 some_left : (left : ℕ) → word_of (nat_lt 0 (suc left)) ≡ 1
 some_left left = grind (arith, nat_tests)
+
+-- Iterations that are counted.
+
+-- where no more lie between the bounds than are counted for the counter, no more do than are counted for the loop
+lie_between : (most : List ℕ) (x : ℕ) (low high : TermTree) (m : Values)
+    → value_in m high - value_in m low ≤ slice_index most x
+    → value_in m high - value_in m low ≤ iterations_counted most x low high
+lie_between most x (number low kind) (number high other) m few = omega (arith, few)
+lie_between most x low high m few = few
+
+-- code behind the bounds of a loop, with no more iterations between them than are counted for it
+pub by_iterations : (z : Setting) {n : ℕ} {steps : Steps} {is : List Instr} {P : Before} {Q : After} (x : ℕ)
+    (low high : TermTree)
+    → ((b : ℕ × ℕ) → b.1 - b.0 ≤ iterations_counted z.counts x low high
+    → Runs z n steps is (MarkKnown (setting z) (ℕ × ℕ) (λ c. c.1 - c.0 ≤ slice_index z.counts x) P
+    (λ env. (value_in env.variables low, value_in env.variables high)) b) Q)
+    → Runs z n (λ env. bounded x (value_in env.variables low) (value_in env.variables high) ∷ steps env) is P Q
+by_iterations z x low high one =
+    by_bounds z x (λ env. (value_in env.variables low, value_in env.variables high))
+    (λ b few. elim (cases_lt (iterations_counted z.counts x low high) (b.1 - b.0)) [
+      | inl more ↦
+          never
+          (λ env s known.
+          let first = ap (λ (c : ℕ × ℕ). c.0) known.is in
+          let second = ap (λ (c : ℕ × ℕ). c.1) known.is in
+          let between = lie_between z.counts x low high env.variables (omega (arith, few, first, second)) in
+          omega (arith, more, first, second, between))
+      | inr within ↦ one b within
+    ])
 
 module _ (z : Setting) (depth : ℕ) (within : depth < z.depths) where
   abbrev pub next : ℕ
@@ -373,18 +405,21 @@ module _ (z : Setting) (depth : ℕ) (within : depth < z.depths) where
         ))
         test_runs body_runs (b.1 - b.0) b.0))
 
-    loop_runs : Runs z ((slice_index z.counts x + 1) * (7 + (9 + n) + 2))
+    abbrev most : ℕ
+    most = iterations_counted z.counts x low high
+
+    loop_runs : Runs z ((most + 1) * (7 + (9 + n) + 2))
         (λ env. bounded x (bounds env).0 (bounds env).1 ∷ path_by env (bounds env))
         (loop_code (test_code next) (count_code next (variable_location z.laid z.allocation x) (mirror_code z.allocation x) ++ ys))
         Beginning (λ env s t. Over (iterations ((bounds env).1 - (bounds env).0) (bounds env).0 one_iteration env) s t)
     loop_runs =
-        by_bounds z x bounds
-        (λ b few. cheaper (mul-le (b.1 - b.0 + 1) (7 + (9 + n) + 2) (slice_index z.counts x + 1) (7 + (9 + n) + 2)
+        by_iterations z x low high
+        (λ b few. cheaper (mul-le (b.1 - b.0 + 1) (7 + (9 + n) + 2) (most + 1) (7 + (9 + n) + 2)
         (omega (arith, few)) (omega arith)) (loop_at b))
 
     -- both bounds, and then the iterations
     pub repeats_runs : Runs z (16 * term_nodes low + 3 + (16 * term_nodes high + 3)
-        + (slice_index z.counts x + 1) * (7 + (9 + n) + 2)) (λ env. path_at env (repeats x low high body))
+        + (most + 1) * (7 + (9 + n) + 2)) (λ env. path_at env (repeats x low high body))
         (bounds_code (layout_of z) next low high
         ++ loop_code (test_code next) (count_code next (variable_location z.laid z.allocation x) (mirror_code z.allocation x) ++ ys))
         (Ready z) (StateShown z depth (λ env. after env (repeats x low high body)))

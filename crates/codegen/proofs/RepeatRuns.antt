@@ -1,10 +1,10 @@
 -- The code of a loop, whichever it is.
 use Rattle.std.proofs.Common.{◌≡◌, ℕ, ◌+◌, ◌*◌, ◌<◌, ◌≤◌, ◌&&◌, not, Bool, false, nat_lt, List, length, Option, None}
-use Rattle.std.proofs.Common.{Some, slice_get, slice_index, refl, arith}
+use Rattle.std.proofs.Common.{Some, slice_get, refl, arith}
 use Rattle.std.proofs.lemmas.Bool.{and_parts, ltb-true, not-true}
 use Rattle.codegen.proofs.CountedLoops.{short_is, to_number_runs, to_word_runs}
 use Rattle.codegen.proofs.Language.{TermTree, word_as, term_nodes, types_of, TermHasType, counter_type, StraightBlock}
-use Rattle.codegen.proofs.Language.{repeats, after, after_all, path_at, path_along}
+use Rattle.codegen.proofs.Language.{repeats, after, after_all, iterations_counted, path_at, path_along}
 use Rattle.codegen.proofs.Logic.{none-some, Setting, base_of, Runs, cheaper, Ready, layout_of}
 use Rattle.codegen.proofs.LoopLengths.{iteration_near}
 use Rattle.codegen.proofs.LoopRuns.{repeats_runs}
@@ -42,8 +42,9 @@ module _ (z : Setting) (depth x : ℕ) (within : depth < z.depths) (low high : T
 
   abbrev Loops : List Instr → Type 0
   Loops code = Runs z (16 * term_nodes low + 3 + (16 * term_nodes high + 3)
-      + (slice_index z.counts x + 1) * (7 + (9 + n) + 2)) (λ env. path_at env (repeats x low high body)) code
-      (Ready z) (StateShown z depth (λ env. after env (repeats x low high body)))
+      + (iterations_counted z.counts x low high + 1) * (7 + (9 + n) + 2))
+      (λ env. path_at env (repeats x low high body)) code (Ready z)
+      (StateShown z depth (λ env. after env (repeats x low high body)))
 
   by_home : (home bound : Option ℕ)
       → counting_home (variable_location z.laid z.allocation x) (any_sets x body) ys ≡ home

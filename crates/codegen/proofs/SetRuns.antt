@@ -3,9 +3,8 @@ use Rattle.std.proofs.Common.{◌≡◌, ℕ, ◌+◌, ◌*◌, ◌≤◌, ◌-�
 use Rattle.codegen.proofs.Logic.{value_word, steps_of, Setting, base_of, Steps, Runs, gives, cheaper, idle, Ready}
 use Rattle.codegen.proofs.Logic.{layout_of}
 use Rattle.codegen.proofs.Logic.{as_code, quiet, wrote_there, home_beside, kept_less}
-use Rattle.codegen.proofs.Language.{TermTree, set_work, value_in, path_of_result, term_nodes, value_nodes, types_of}
+use Rattle.codegen.proofs.Language.{TermTree, nodes_work, value_in, path_of_result, term_nodes, value_nodes, types_of}
 use Rattle.codegen.proofs.Language.{IsResult, StraightState, with_variable, IsSet, WordType}
-use Rattle.inline.specs.Flat as flat
 use Rattle.codegen.proofs.Machine.{at_home, home_of, InSlot, mirror_by, mirror_code, mirror_of, set_code, result_code}
 use Rattle.codegen.proofs.Machine.{result_height, variable_location}
 use Rattle.codegen.proofs.Machine.{variable_offset, result_offset, slots_to, height_of}
@@ -15,17 +14,12 @@ use Rattle.codegen.proofs.Slots.{StateShown, homed_runs, suits_fits, ready_offer
 use Rattle.codegen.proofs.Slots.{hidden_by, hidden_then, hidden_valued, hidden_kept, ready_set}
 use Rattle.codegen.proofs.Mirroring.{mirror_runs, ready_mirrored}
 
--- a value, a store, and a mirror that follows take no more than the work of setting a word
-pub set_cost : (value : TermTree) → 16 * term_nodes value + 5 ≤ 32 * set_work None value
-set_cost (flat.variable x) = omega arith
-set_cost value = omega arith
-
 module _ (z : Setting) where
   -- a variable is set, in its slot or in its home
   set_by : (depth x : ℕ) (value : TermTree) → IsSet z.code.profile z.declared x value
       → base_of z + 4 * slots_to z.allocation.count (height_of value) ≤ z.size → depth ≤ z.depths
       → (h : Option ℕ) → home_of z.allocation.homes x ≡ h
-      → Runs z (32 * set_work None value) (steps_of value)
+      → Runs z (32 * nodes_work (term_nodes value)) (steps_of value)
       (set_code (layout_of z) None (at_home h (InSlot (variable_offset z.laid x))) value
       ++ mirror_by h (mirror_of z.allocation x))
       (Ready z) (StateShown z depth (λ env. with_variable env x (value_in env.variables value ∷ [])))
@@ -33,7 +27,7 @@ module _ (z : Setting) where
       let o = variable_offset z.laid x in
       let before = word_before z x typed.word typed.mutable typed.known away in
       as_code (append-nil (set_code (layout_of z) None (InSlot o) value))
-      (cheaper (omega (arith, set_cost value))
+      (cheaper (omega arith)
       (gives
       (λ env s t fine ready done.
       let m = done.middle in
@@ -47,7 +41,7 @@ module _ (z : Setting) where
       (assigned z o typed.suits.has_type room (omega arith) (omega (arith, before, z.room)))))
   set_by depth x value typed room within (Some home) at =
       let is = z.allocated.allowed x home at in
-      cheaper (omega (arith, set_cost value))
+      cheaper (omega arith)
       (gives
       (λ env s t fine ready done.
       let m = done.middle in
@@ -66,7 +60,7 @@ module _ (z : Setting) where
 
   pub set_runs : (depth x : ℕ) (value : TermTree) → IsSet z.code.profile z.declared x value
       → base_of z + 4 * slots_to z.allocation.count (height_of value) ≤ z.size → depth ≤ z.depths
-      → Runs z (32 * set_work None value) (steps_of value)
+      → Runs z (32 * nodes_work (term_nodes value)) (steps_of value)
       (set_code (layout_of z) None (variable_location z.laid z.allocation x) value ++ mirror_code z.allocation x)
       (Ready z) (StateShown z depth (λ env. with_variable env x (value_in env.variables value ∷ [])))
   set_runs depth x value typed room within =

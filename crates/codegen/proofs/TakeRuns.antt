@@ -9,7 +9,7 @@ use Rattle.codegen.proofs.Logic.{kept_by, at_control, HeldAt, Kept, kept_then, m
 use Rattle.codegen.proofs.Logic.{free_from, none, idle}
 use Rattle.codegen.proofs.CountingRuns.{one_computed}
 use Rattle.codegen.proofs.Language.{TermTree, value_in, term_nodes, types_of, TermHasType, StraightState, holds, after}
-use Rattle.codegen.proofs.Language.{IsAmong, Boolean, Label, labelled}
+use Rattle.codegen.proofs.Language.{IsAmong, Boolean, Label, labelled, nodes_work}
 use Rattle.branch_removal.specs.Straight as straight
 use Rattle.codegen.proofs.Machine.{at_home, home_of, InSlot, Instr, masks_code}
 use Rattle.codegen.proofs.Machine.{IsKeptWithin, is_unread, register_of, taken_code, unless_unread, statement_code}
@@ -239,7 +239,7 @@ module _ (z : Setting) where
         ap t.regs (sym same) ∙ is
 
     pub take_runs : IsAmong z.controls within → IsKeptWithin z.allocation.unread within
-        → Runs z (32 * (1 + term_nodes condition)) (steps_of condition)
+        → Runs z (32 * nodes_work (term_nodes condition)) (steps_of condition)
         (statement_code (layout_of z) depth (straight.take c within condition))
         (Ready z) (StateShown z depth (λ env. after env (straight.take c within condition)))
     take_runs among read =

@@ -11,7 +11,7 @@ use Rattle.codegen.proofs.Logic.{registers_after, quiet, took, along, known, mov
 use Rattle.codegen.proofs.Logic.{only_computes, computing_within, bytes_of, Fetched, free_from, place_before, Before}
 use Rattle.codegen.proofs.Language.{TermTree, word_as, value_in, term_nodes, types_of, set, StraightState}
 use Rattle.codegen.proofs.Language.{with_variable, with_element, after, IsSet, WordType, bits_of, FlatVariable}
-use Rattle.codegen.proofs.Language.{TermHasType, numbers_in}
+use Rattle.codegen.proofs.Language.{TermHasType, nodes_work, numbers_in}
 use Rattle.codegen.proofs.Machine.{at_home, control_location, fetch_code, home_of, InSlot, Instr, is_unread, merge_code}
 use Rattle.codegen.proofs.Machine.{InRegister, mirror_by, mirror_code, mirror_of, variable_location, set_under_code, read_code, read_register, variable_offset}
 use Rattle.codegen.proofs.Machine.{slots_to, load_code, store_code, height_of, Sw, number_at, statement_code, Location}
@@ -414,7 +414,7 @@ module _ (z : Setting) (depth : ℕ) (within : depth ≤ z.depths) (c : ℕ) (am
           (source_apart z source 7 (omega arith) (λ e. omega (arith, e))) ∙ there
 
       merged_at : (h : Option ℕ) → home_of z.allocation.homes x ≡ h
-          → Sets (32 * (1 + term_nodes value)) (steps_of value) ((read_code (layout_of z) 5 0 value
+          → Sets (32 * nodes_work (term_nodes value)) (steps_of value) ((read_code (layout_of z) 5 0 value
           ++ set_under_code r (at_home h (InSlot (variable_offset z.laid x))) control)
           ++ mirror_by h (mirror_of z.allocation x))
       merged_at None away =
@@ -431,7 +431,7 @@ module _ (z : Setting) (depth : ℕ) (within : depth ≤ z.depths) (c : ℕ) (am
           (merges (works home at) home 5 home k (works_home home at) (works_five home at) free five free k_free
           (home_beside home at) beside r r_free)))
 
-      pub set_under_runs : Sets (32 * (1 + term_nodes value)) (steps_of value)
+      pub set_under_runs : Sets (32 * nodes_work (term_nodes value)) (steps_of value)
           (statement_code (layout_of z) depth (set (Some c) x value))
       set_under_runs =
           let l = variable_location z.laid z.allocation x in
