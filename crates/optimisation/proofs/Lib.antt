@@ -2,6 +2,7 @@ pub mod over_lemmas
 pub mod constants_lemmas
 pub mod element_words_lemmas
 pub mod high_products_lemmas
+pub mod iteration_groups_lemmas
 pub mod live_words_lemmas
 pub mod needed_variables_lemmas
 pub mod number_words_lemmas

@@ -9,7 +9,7 @@
 mod narrowing;
 mod parts;
 mod plan;
-mod statements;
+pub(crate) mod statements;
 mod terms;
 
 pub use plan::ElementWords;

@@ -28,10 +28,10 @@ const MOST_IN_EACH_OF_FEW: u64 = 4_096;
 const COUNTER_NODES: u64 = 2;
 
 /// How many nodes an index has for each that counts: most of them become numbers.
-const INDEX_NODES: u64 = 4;
+pub const INDEX_NODES: u64 = 4;
 
 /// How many nodes an expression has, of indices a quarter.
-fn nodes_in(term: &Term) -> u64
+pub fn nodes_in(term: &Term) -> u64
     ensures { result ≡ counted (term_size (term_tree term.now)) }
 {
     match term {
@@ -53,7 +53,7 @@ fn nodes_in(term: &Term) -> u64
 }
 
 /// How many nodes expressions have, of indices a quarter.
-fn nodes_in_all(terms: &[Term]) -> u64
+pub fn nodes_in_all(terms: &[Term]) -> u64
     ensures { result ≡ counted (terms_size (map term_tree terms.now)) }
 {
     let mut sum = 0u64;

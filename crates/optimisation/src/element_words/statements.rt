@@ -14,7 +14,10 @@ use language::Kind;
 use std::alloc::{AllocError, Global};
 
 /// Puts a statement behind a block.
-fn push(code: &mut Vec<StraightStatement>, statement: StraightStatement) -> Result<(), AllocError>
+pub fn push(
+    code: &mut Vec<StraightStatement>,
+    statement: StraightStatement,
+) -> Result<(), AllocError>
     ensures { OnOk result (straight_block code.new.items
         ≡ chain (straight_block code.old.items) (single (straight_tree statement))) }
 {

@@ -1,0 +1,66 @@
+-- Which loops are grouped: those between two numbers that make at least eight iterations, whose body has few nodes and
+-- no loop, and sets the counter nowhere. Of the nodes of an index a quarter counts, as where loops become their
+-- iterations.
+use Rattle.std.specs.Prelude.{ℕ, ◌+◌, ◌-◌, ◌/◌, ◌==◌, ◌&&◌, Bool, true, false, not, nat_le}
+use Rattle.std.specs.Prelude.{Option, None, Some, if◌then◌else◌}
+use Rattle.std.specs.Option.{option_and_then}
+use Rattle.optimisation.specs.Below.{array, branch, first, nothing, number, put, repeats, set, StraightBlock}
+use Rattle.optimisation.specs.Below.{StraightTree, take, TermTree}
+use Rattle.optimisation.specs.constants.private.Choice.{counted, term_size, terms_size}
+use Rattle.optimisation.specs.declared.constants.terms.CounterRange.{CounterRange}
+
+abbrev mutual
+  -- a statement that has no loop, and does not set this variable
+  pub is_plain : ℕ → StraightTree → Bool
+  is_plain y (set within x value) = not (x == y)
+  is_plain y (array x size values) = not (x == y)
+  is_plain y (put within place x size index value) = not (x == y)
+  is_plain y (take control within condition) = true
+  is_plain y (branch condition accepted otherwise) = are_plain y accepted && are_plain y otherwise
+  is_plain y (repeats x low high body) = false
+
+  -- so are all of these
+  pub are_plain : ℕ → StraightBlock → Bool
+  are_plain y nothing = true
+  are_plain y (first statement rest) = is_plain y statement && are_plain y rest
+
+abbrev mutual
+  -- the nodes of a statement, of indices a quarter
+  pub statement_size : StraightTree → ℕ
+  statement_size (set within x value) = 1 + term_size value
+  statement_size (array x size values) = 1 + terms_size values
+  statement_size (put within place x size index value) = 1 + counted (term_size index) / 4 + term_size value
+  statement_size (take control within condition) = 1 + term_size condition
+  statement_size (branch condition accepted otherwise) =
+      1 + term_size condition + body_size accepted + body_size otherwise
+  statement_size (repeats x low high body) = 1 + term_size low + term_size high + body_size body
+
+  -- those of statements
+  pub body_size : StraightBlock → ℕ
+  body_size nothing = 0
+  body_size (first statement rest) = statement_size statement + body_size rest
+
+abbrev pub least_iterations : ℕ
+least_iterations = 8
+
+-- how many nodes an iteration may have
+abbrev pub most_nodes : ℕ
+most_nodes = 48
+
+abbrev pub is_short : StraightBlock → Bool
+is_short body = nat_le (counted (body_size body)) most_nodes
+
+abbrev pub number_in : TermTree → Option ℕ
+number_in (number value kind) = Some value
+number_in _ = None
+
+-- the numbers from one up to the last before another, where there are enough of them
+abbrev pub range_between : ℕ → ℕ → Option CounterRange
+range_between low high =
+    if nat_le least_iterations (high - low) then Some (record { low = low; high = high }) else None
+
+-- the numbers of a counter, where its loop is grouped
+abbrev pub grouped_range : ℕ → TermTree → TermTree → StraightBlock → Option CounterRange
+grouped_range x low high body = if are_plain x body && is_short body
+    then option_and_then (λ a. option_and_then (range_between a) (number_in high)) (number_in low)
+    else None
