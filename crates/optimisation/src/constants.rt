@@ -10,7 +10,7 @@
 // unrolled iterations together have at most 32 times the nodes of the source
 // (`specs/constants/private/Choice.antt`); the proof holds for any choice.
 
-pub(crate) mod choice;
+mod choice;
 pub(crate) mod copy_propagation;
 pub(crate) mod fields;
 mod known;

@@ -12,5 +12,6 @@ mod plan;
 pub(crate) mod statements;
 mod terms;
 
+pub(crate) use parts::SplitArrays;
 pub use plan::ElementWords;
 pub(crate) use plan::MOST_VARIABLE_WORDS;

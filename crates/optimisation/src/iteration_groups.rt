@@ -4,7 +4,8 @@
 // behind it. It may stand in the place of the code that it is made of: the outcome is the same, and what is public
 // stays public. Stands on `inline` and `branch_removal`.
 
-mod choice;
+pub(crate) mod choice;
+mod losses;
 mod plan;
 mod statements;
 mod terms;

@@ -1,6 +1,6 @@
 -- A loop that is grouped is one between two numbers, of at least one iteration; its body has no loop, and does not set
 -- the counter.
-use Rattle.std.proofs.Common.{◌≡◌, ℕ, ◌-◌, ◌<◌, ◌^◌, ◌&&◌, Bool, true, false, if◌then◌else◌, Option, None, Some, refl}
+use Rattle.std.proofs.Common.{◌≡◌, ℕ, ◌-◌, ◌<◌, ◌^◌, Bool, true, false, if◌then◌else◌, [], Option, None, Some, refl}
 use Rattle.std.proofs.Common.{ap, arith, option_and_then, subst}
 use Rattle.std.specs.Prelude.{nat_le}
 use Rattle.std.proofs.lemmas.Bool.{and_parts, leb-true}
@@ -10,8 +10,8 @@ use Rattle.optimisation.specs.Below.{binary, bits_of, Boolean, convert, element,
 use Rattle.optimisation.specs.Below.{rotate, select, StraightBlock, TermHasType, TermTree, truth, Types, Uint32, variable}
 use Rattle.optimisation.specs.Below.{WordType}
 use Rattle.optimisation.specs.declared.constants.terms.CounterRange.{CounterRange}
-use Rattle.optimisation.specs.iteration_groups.private.Choice.{are_plain, grouped_range, is_short, least_iterations}
-use Rattle.optimisation.specs.iteration_groups.private.Choice.{number_in, range_between}
+use Rattle.optimisation.specs.iteration_groups.private.Choice.{are_plain, grouped_range, is_groupable, is_short}
+use Rattle.optimisation.specs.iteration_groups.private.Choice.{least_iterations, number_in, range_between}
 
 pub record IsGrouped (x : ℕ) (low high : TermTree) (body : StraightBlock) (range : CounterRange) : Type 0 where
   pub first : number_in low ≡ Some range.low
@@ -25,10 +25,10 @@ some_where true o a is = (refl, is)
 some_where false o a is = absurd (none-some a is)
 
 pub is_grouped : (x : ℕ) (low high : TermTree) (body : StraightBlock) (range : CounterRange)
-    → grouped_range x low high body ≡ Some range → IsGrouped x low high body range
+    → grouped_range [] x low high body ≡ Some range → IsGrouped x low high body range
 is_grouped x low high body range is =
     let both = λ (a : ℕ). option_and_then (range_between a) (number_in high) in
-    let chosen = some_where (are_plain x body && is_short body) (option_and_then both (number_in low)) range is in
+    let chosen = some_where (is_groupable [] x body) (option_and_then both (number_in low)) range is in
     option_and_then_some both (number_in low) range chosen.1 (λ a low_is from.
     option_and_then_some (range_between a) (number_in high) range from (λ b high_is between.
     let parts = cond_some (nat_le least_iterations (b - a)) (record { low = a; high = b }) range between in
@@ -38,7 +38,7 @@ is_grouped x low high body range is =
       first = rw (← first) low_is;
       behind = rw (← last) high_is;
       some = omega (arith, first, last, leb-true least_iterations (b - a) parts.0);
-      plain = (and_parts (are_plain x body) (is_short body) chosen.0).0;
+      plain = (and_parts (are_plain x body) (is_short [] x body) chosen.0).0;
     }))
 
 -- an expression that is a number

@@ -90,7 +90,7 @@ module _ (declared : List FlatVariable) where
         → AreBeside (InStep (Some (shift_to x base offset)) v) u u'
         → RunsBeside (InStep (Some (shift_to x base offset)) v) most u u' body
         (grouped_all (Some (shift_to x base offset)) base body))
-        → (range : Option CounterRange) → grouped_range x low high body ≡ range
+        → (range : Option CounterRange) → grouped_range [] x low high body ≡ range
         → FollowsAt (InStep None w) most s t (repeats x low high body) (loop_by range
         (λ range. grouped_loop x base range (λ offset. grouped_all (Some (shift_to x base offset)) base body))
         (single (repeats x (shifted None low) (shifted None high) (grouped_all None base body))))
@@ -168,7 +168,7 @@ module _ (declared : List FlatVariable) where
           (set_both None w tt x (word_as counter_type false) (i ∷ []) (i ∷ []) is.2 tt refl step))
           (λ plain offset v below u u' step. all_follow (Some (shift_to x base offset)) v
           (record { counter = is.2; base = behind; low = below }) body plain is.3 step)
-          (grouped_range x low high body) refl
+          (grouped_range [] x low high body) refl
       follows (Some shift) w placed (repeats x low high body) kept is beside = absurd (true≢false (sym kept))
 
       pub all_follow : (shift : Option Shift) (w : ℕ) (placed : IsPlaced declared shift w) (body : StraightBlock)

@@ -1,12 +1,14 @@
 // Which loops become their iterations.
 
-ghost use Rattle.std.specs.Prelude.{◌≡◌, map, slice_index, slice_set, IfOk};
-ghost use Rattle.optimisation.specs.Below.{straight_block, straight_tree, term_tree};
-ghost use Rattle.optimisation.specs.constants.private.Choice.{begun, choice_of, chosen, chosen_all, counted, grown};
-ghost use Rattle.optimisation.specs.constants.private.Choice.{most_nodes_of, settled, term_size, terms_size};
+ghost use Rattle.std.specs.Prelude.{◌≡◌, slice_index, slice_set, IfOk};
+ghost use Rattle.optimisation.specs.Below.{straight_block, straight_tree};
+ghost use Rattle.optimisation.specs.constants.private.Choice.{begun, choice_of, chosen, chosen_all, grown};
+ghost use Rattle.optimisation.specs.constants.private.Choice.{is_kept, most_nodes_of, settled};
 
+use crate::element_words::SplitArrays;
+use crate::iteration_groups::choice::{LEAST_ITERATIONS, is_groupable};
+use crate::nodes::{INDEX_NODES, nodes_in, nodes_in_all};
 use branch_removal::{StraightCode, StraightStatement};
-use inline::Term;
 use std::alloc::{AllocError, Global};
 
 /// How many nodes the iterations of loops have room for, for each node of the source.
@@ -24,44 +26,11 @@ const FEW_ITERATIONS: u32 = 3;
 /// How many nodes each of few iterations may have.
 const MOST_IN_EACH_OF_FEW: u64 = 4_096;
 
+/// How many nodes all iterations of a loop have that is better off without a counter, though it may be grouped.
+const SHORT_LOOP: u64 = 128;
+
 /// How many nodes there are in setting a counter.
 const COUNTER_NODES: u64 = 2;
-
-/// How many nodes an index has for each that counts: most of them become numbers.
-pub const INDEX_NODES: u64 = 4;
-
-/// How many nodes an expression has, of indices a quarter.
-pub fn nodes_in(term: &Term) -> u64
-    ensures { result ≡ counted (term_size (term_tree term.now)) }
-{
-    match term {
-        Term::Number(_, _) => 1,
-        Term::Truth(_) => 1,
-        Term::Variable(_) => 1,
-        Term::Prefix(_, _, operand) => nodes_in(operand).saturating_add(1),
-        Term::Binary(_, _, _, left, right) => nodes_in(left)
-            .saturating_add(nodes_in(right))
-            .saturating_add(1),
-        Term::Rotate(_, operand, _) => nodes_in(operand).saturating_add(1),
-        Term::Convert(_, operand) => nodes_in(operand).saturating_add(1),
-        Term::Select(condition, accepted, otherwise) => nodes_in(condition)
-            .saturating_add(nodes_in(accepted))
-            .saturating_add(nodes_in(otherwise))
-            .saturating_add(1),
-        Term::Element(_, _, _, index) => (nodes_in(index) / INDEX_NODES).saturating_add(1),
-    }
-}
-
-/// How many nodes expressions have, of indices a quarter.
-pub fn nodes_in_all(terms: &[Term]) -> u64
-    ensures { result ≡ counted (terms_size (map term_tree terms.now)) }
-{
-    let mut sum = 0u64;
-    for term in terms {
-        sum = sum.saturating_add(nodes_in(term));
-    }
-    sum
-}
 
 /// How many iterations the loop of a counter may become.
 pub fn unroll_limit_of(unroll_limits: &[u32], counter: u32) -> u32
@@ -81,6 +50,13 @@ fn most_nodes_of(iterations: u32) -> u64
     }
 }
 
+/// Whether a loop that may be grouped stays: where it makes many iterations, and these would not be short together.
+fn is_kept(groupable: bool, iterations: u32, cost: u64) -> bool
+    ensures { result ≡ is_kept groupable iterations cost }
+{
+    groupable && LEAST_ITERATIONS <= iterations && SHORT_LOOP < cost
+}
+
 /// The loop of a counter may not become iterations.
 fn refuse(unroll_limits: &mut Vec<u32>, counter: u32)
     ensures { unroll_limits.new.items ≡ slice_set unroll_limits.old.items counter 0 }
@@ -91,10 +67,11 @@ fn refuse(unroll_limits: &mut Vec<u32>, counter: u32)
 }
 
 /// How many iterations the loop of each counter may become, at the counter's number, how many nodes there is still room
-/// for, and how many there are so far.
+/// for, and how many there are so far; and which arrays might become words.
 #[derive(Drop)]
 pub struct Choice {
     pub unroll_limits: Vec<u32>,
+    arrays: SplitArrays,
     room: u64,
     nodes: u64,
 }
@@ -104,12 +81,15 @@ impl Choice {
     pub fn of(alloc: Global, straight: &StraightCode<'_>) -> Result<Self, AllocError>
         ensures { IfOk result (λ choice. choice_of choice ≡ chosen_all (begun straight.now) straight.now.body) }
     {
+        let body = straight.body();
+        let parameters = straight.parameters().len();
         let mut choice = Choice {
             unroll_limits: straight.iterations().to_vec(alloc)?,
+            arrays: SplitArrays::candidates(alloc, parameters, straight.declared())?,
             room: (u64::from(straight.nodes()) * ROOM_FACTOR).min(MOST_ROOM),
             nodes: 0,
         };
-        choice.choose_all(straight.body());
+        choice.choose_all(body);
         Ok(choice)
     }
 
@@ -121,16 +101,18 @@ impl Choice {
     }
 
     /// Behind so many nodes, where there was so much room, a loop of so many nodes without its body, for which all is
-    /// chosen: it becomes its iterations where each is short and there is room for all.
-    fn settle(&mut self, before: u64, room: u64, counter: u32, own: u64)
-        ensures { choice_of self.new ≡ settled before room counter own (choice_of self.old) }
+    /// chosen: it becomes its iterations where each is short and there is room for all, but not where it is kept to be
+    /// grouped.
+    fn settle(&mut self, before: u64, room: u64, counter: u32, own: u64, groupable: bool)
+        ensures { choice_of self.new ≡ settled before room counter own groupable (choice_of self.old) }
     {
         let iterations = unroll_limit_of(self.unroll_limits.as_slice(), counter);
         let cost = self
             .nodes
             .saturating_add(COUNTER_NODES)
             .saturating_mul(u64::from(iterations));
-        if iterations >= 1 && self.nodes <= most_nodes_of(iterations) && cost <= room {
+        let unrolls = iterations >= 1 && !is_kept(groupable, iterations, cost);
+        if unrolls && self.nodes <= most_nodes_of(iterations) && cost <= room {
             self.room = room - cost;
             self.nodes = before.saturating_add(cost);
         } else {
@@ -166,7 +148,8 @@ impl Choice {
                 self.nodes = 0;
                 self.choose_all(body);
                 let own = nodes_in(low).saturating_add(nodes_in(high));
-                self.settle(before, room, *counter, own.saturating_add(1));
+                let groupable = is_groupable(&self.arrays, *counter, body);
+                self.settle(before, room, *counter, own.saturating_add(1), groupable);
             }
         }
     }

@@ -1,23 +1,28 @@
-// Which loops are grouped: those between two numbers that make at least eight iterations, whose body is short, has no
-// loop, and sets the counter nowhere.
+// Which loops are grouped: those between two numbers that make at least sixteen iterations, whose body is short, has no
+// loop, sets the counter nowhere, and loses little in a group.
 
 ghost use Rattle.std.specs.Prelude.{◌≡◌, map};
 ghost use Rattle.optimisation.specs.Below.{straight_block, straight_tree, term_tree};
-ghost use Rattle.optimisation.specs.constants.private.Choice.{counted};
-ghost use Rattle.optimisation.specs.iteration_groups.private.Choice.{are_plain, body_size, grouped_range, is_plain};
-ghost use Rattle.optimisation.specs.iteration_groups.private.Choice.{is_short, number_in, range_between};
-ghost use Rattle.optimisation.specs.iteration_groups.private.Choice.{statement_size};
+ghost use Rattle.optimisation.specs.iteration_groups.private.Choice.{are_plain, body_size, grouped_range};
+ghost use Rattle.optimisation.specs.iteration_groups.private.Choice.{is_groupable, is_plain, is_short};
+ghost use Rattle.optimisation.specs.iteration_groups.private.Choice.{number_in, range_between, statement_size};
+ghost use Rattle.optimisation.specs.private.Nodes.{counted};
 
-use crate::constants::choice::{INDEX_NODES, nodes_in, nodes_in_all};
 use crate::constants::terms::CounterRange;
+use crate::element_words::SplitArrays;
+use crate::iteration_groups::losses::lost_by_all;
+use crate::nodes::{INDEX_NODES, nodes_in, nodes_in_all};
 use branch_removal::StraightStatement;
 use inline::Term;
 
 /// How many iterations a loop makes at least that is grouped.
-const LEAST_ITERATIONS: u32 = 8;
+pub const LEAST_ITERATIONS: u32 = 16;
 
 /// How many nodes an iteration may have.
 const MOST_NODES: u64 = 48;
+
+/// How many nodes an iteration has at least for each that it loses in a group.
+const NODES_FOR_LOSS: u64 = 32;
 
 /// Whether a statement has no loop, and does not set a variable.
 #[cycle(plain)]
@@ -85,11 +90,13 @@ fn nodes_by_all(statements: &[StraightStatement]) -> u64
     sum
 }
 
-/// Whether an iteration has few nodes.
-fn is_short(body: &[StraightStatement]) -> bool
-    ensures { result ≡ is_short (straight_block body.now) }
+/// Whether an iteration has few nodes, but many for each that it loses in a group.
+fn is_short(arrays: &SplitArrays, counter: u32, body: &[StraightStatement]) -> bool
+    ensures { result ≡ is_short arrays.now.arrays.items counter (straight_block body.now) }
 {
-    nodes_by_all(body) <= MOST_NODES
+    let nodes = nodes_by_all(body);
+    let lost = lost_by_all(arrays, counter, body);
+    nodes <= MOST_NODES && lost.saturating_mul(NODES_FOR_LOSS) <= nodes
 }
 
 /// A number.
@@ -120,16 +127,25 @@ fn range_between(low: u32, high: u32) -> Option<CounterRange>
     }
 }
 
+/// Whether a loop may be grouped, by its body.
+pub fn is_groupable(arrays: &SplitArrays, counter: u32, body: &[StraightStatement]) -> bool
+    ensures { result ≡ is_groupable arrays.now.arrays.items counter (straight_block body.now) }
+{
+    are_plain(counter, body) && is_short(arrays, counter, body)
+}
+
 /// The numbers of a counter, where its loop is grouped.
 pub fn grouped_range(
+    arrays: &SplitArrays,
     counter: u32,
     low: &Term,
     high: &Term,
     body: &[StraightStatement],
 ) -> Option<CounterRange>
-    ensures { result ≡ grouped_range counter (term_tree low.now) (term_tree high.now) (straight_block body.now) }
+    ensures { result ≡ grouped_range arrays.now.arrays.items counter (term_tree low.now) (term_tree high.now)
+        (straight_block body.now) }
 {
-    if are_plain(counter, body) && is_short(body) {
+    if is_groupable(arrays, counter, body) {
         range_between(number_in(low)?, number_in(high)?)
     } else {
         None

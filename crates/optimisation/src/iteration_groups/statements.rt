@@ -9,6 +9,7 @@ ghost use Rattle.optimisation.specs.iteration_groups.private.Grouping.{copies, f
 ghost use Rattle.optimisation.specs.iteration_groups.private.Grouping.{grouped_all, grouped_loop, number_set, shift_to};
 
 use crate::constants::terms::CounterRange;
+use crate::element_words::SplitArrays;
 use crate::element_words::statements::push;
 use crate::iteration_groups::choice::grouped_range;
 use crate::iteration_groups::terms::{Shift, all_shifted, shifted};
@@ -131,7 +132,8 @@ fn push_loop(
 {
     let Copying { alloc, base, shift } = copying;
     if shift.is_none() {
-        if let Some(range) = grouped_range(counter, low, high, body) {
+        let none = SplitArrays::none(alloc);
+        if let Some(range) = grouped_range(&none, counter, low, high, body) {
             let each = GroupedLoop {
                 counter,
                 base,

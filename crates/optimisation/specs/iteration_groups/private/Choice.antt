@@ -1,13 +1,14 @@
--- Which loops are grouped: those between two numbers that make at least eight iterations, whose body has few nodes and
--- no loop, and sets the counter nowhere. Of the nodes of an index a quarter counts, as where loops become their
--- iterations.
-use Rattle.std.specs.Prelude.{ℕ, ◌+◌, ◌-◌, ◌/◌, ◌==◌, ◌&&◌, Bool, true, false, not, nat_le}
+-- Which loops are grouped: those between two numbers that make at least sixteen iterations, whose body has few nodes and
+-- no loop, sets the counter nowhere, and loses little in a group.
+use Rattle.std.specs.Prelude.{ℕ, ◌+◌, ◌-◌, ◌*◌, ◌/◌, ◌==◌, ◌&&◌, Bool, true, false, not, nat_le}
 use Rattle.std.specs.Prelude.{Option, None, Some, if◌then◌else◌}
 use Rattle.std.specs.Option.{option_and_then}
 use Rattle.optimisation.specs.Below.{array, branch, first, nothing, number, put, repeats, set, StraightBlock}
 use Rattle.optimisation.specs.Below.{StraightTree, take, TermTree}
-use Rattle.optimisation.specs.constants.private.Choice.{counted, term_size, terms_size}
 use Rattle.optimisation.specs.declared.constants.terms.CounterRange.{CounterRange}
+use Rattle.optimisation.specs.element_words.private.Parts.{Parts}
+use Rattle.optimisation.specs.iteration_groups.private.Losses.{lost_by_all}
+use Rattle.optimisation.specs.private.Nodes.{counted, term_size, terms_size}
 
 abbrev mutual
   -- a statement that has no loop, and does not set this variable
@@ -41,14 +42,11 @@ abbrev mutual
   body_size (first statement rest) = statement_size statement + body_size rest
 
 abbrev pub least_iterations : ℕ
-least_iterations = 8
+least_iterations = 16
 
 -- how many nodes an iteration may have
 abbrev pub most_nodes : ℕ
 most_nodes = 48
-
-abbrev pub is_short : StraightBlock → Bool
-is_short body = nat_le (counted (body_size body)) most_nodes
 
 abbrev pub number_in : TermTree → Option ℕ
 number_in (number value kind) = Some value
@@ -59,8 +57,22 @@ abbrev pub range_between : ℕ → ℕ → Option CounterRange
 range_between low high =
     if nat_le least_iterations (high - low) then Some (record { low = low; high = high }) else None
 
+-- how many nodes an iteration has at least for each that it loses in a group
+abbrev pub nodes_for_loss : ℕ
+nodes_for_loss = 32
+
+-- an iteration has few nodes, but many for each that it loses
+abbrev pub is_short : Parts → ℕ → StraightBlock → Bool
+is_short arrays x body =
+    nat_le (counted (body_size body)) most_nodes
+    && nat_le (counted (counted (lost_by_all arrays x body) * nodes_for_loss)) (counted (body_size body))
+
+-- a loop with this counter and body may be grouped, where these arrays might become words
+abbrev pub is_groupable : Parts → ℕ → StraightBlock → Bool
+is_groupable arrays x body = are_plain x body && is_short arrays x body
+
 -- the numbers of a counter, where its loop is grouped
-abbrev pub grouped_range : ℕ → TermTree → TermTree → StraightBlock → Option CounterRange
-grouped_range x low high body = if are_plain x body && is_short body
+abbrev pub grouped_range : Parts → ℕ → TermTree → TermTree → StraightBlock → Option CounterRange
+grouped_range arrays x low high body = if is_groupable arrays x body
     then option_and_then (λ a. option_and_then (range_between a) (number_in high)) (number_in low)
     else None

@@ -79,7 +79,7 @@ shift_to x base offset = record { counter = x; base = base; offset = offset }
 
 -- the numbers of a counter, where its loop stands in no group and is grouped
 abbrev pub range_at : Option Shift → ℕ → TermTree → TermTree → StraightBlock → Option CounterRange
-range_at None x low high body = grouped_range x low high body
+range_at None x low high body = grouped_range [] x low high body
 range_at (Some shift) x low high body = None
 
 -- a loop over groups, where there are some, else as it is

@@ -1,7 +1,9 @@
-use Rattle.std.proofs.Common.{◌+◌, rules, refl, arith}
-use Rattle.optimisation.specs.Below.{term_tree}
+use Rattle.std.proofs.Common.{◌≡◌, ◌+◌, List, rules, refl, ◌∙◌, sym, subst, arith}
+use Rattle.branch_removal.specs.declared.straight.StraightStatement.{StraightStatement}
+use Rattle.optimisation.specs.Below.{straight_block, term_tree}
 use Rattle.optimisation.specs.constants.private.Choice.{term_size, choice_of}
-use Rattle.optimisation.proofs.constants_lemmas.ChoiceLemmas.{grown_by, settled_by}
+use Rattle.optimisation.specs.iteration_groups.private.Choice.{is_groupable}
+use Rattle.optimisation.proofs.constants_lemmas.ChoiceLemmas.{closed_by, grown_by}
 use Rattle.branch_removal.proofs.StatementTrees.{tree_of_branch, tree_of_loop, accepted_smaller, otherwise_smaller}
 use Rattle.branch_removal.proofs.StatementTrees.{body_smaller, item_here, smaller_here}
 use Rattle.optimisation.proofs.constants.choice.Choice.+choice.Goals as goal
@@ -40,16 +42,21 @@ choose-returns-in-Branch t c =
 
 pub choose-returns-in-Repeat : goal.choose-returns-in-Repeat
 choose-returns-in-Repeat t c =
+    let same = c.deref-in-Repeat-2.ensures.value ∙ sym c.deref-in-Repeat.ensures.value in
+    let may = subst (λ (items : List StraightStatement). c.is_groupable-groupable.result
+    ≡ is_groupable c.choose_all-in-Repeat.new.self.arrays.arrays.items c.in-Repeat.counter (straight_block items))
+    same c.is_groupable-groupable.ensures in
     rw (c.settle.ensures, tree_of_loop c.in-Repeat.body c.in-Repeat.is c.deref-in-Repeat.ensures.value)
-    (settled_by c.args.self.now.nodes c.args.self.now.room c.in-Repeat.counter _
-    (1 + term_size (term_tree c.in-Repeat.low) + term_size (term_tree c.in-Repeat.high)) _ _
+    (closed_by c.args.self.now.nodes c.args.self.now.room c.in-Repeat.counter _
+    (1 + term_size (term_tree c.in-Repeat.low) + term_size (term_tree c.in-Repeat.high))
+    (straight_block c.deref-in-Repeat.result.now) _ _ _
     (omega (
       arith,
       c.saturating_add-in-Repeat.ensures,
       c.saturating_add-own.ensures,
       c.nodes_in-in-Repeat.ensures,
       c.nodes_in-in-Repeat-2.ensures,
-    )) c.choose_all-in-Repeat.ensures)
+    )) c.choose_all-in-Repeat.ensures may)
 
 pub choose_all-choose-requires : goal.choose_all-choose-requires
 choose_all-choose-requires t c =

@@ -1,7 +1,7 @@
 use Rattle.std.proofs.Common.{◌≡◌, ◌≤◌, ◌+◌, ◌-◌, ◌^◌, drop, map}
 use Rattle.optimisation.specs.Below.{term_tree}
-use Rattle.optimisation.specs.constants.private.Choice.{terms_size, counted}
-use Rattle.optimisation.proofs.constants.choice.nodes_in_all.Given as goal
+use Rattle.optimisation.specs.private.Nodes.{terms_size, counted}
+use Rattle.optimisation.proofs.nodes.nodes_in_all.Given as goal
 
 -- the sum is a count, and with what the expressions left have it is the count of all
 abbrev pub invariant-loop-term : goal.invariant-loop-term
