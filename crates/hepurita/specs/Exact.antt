@@ -9,6 +9,7 @@ use Rattle.optimisation.specs.element_words.Exact.{split_of}
 use Rattle.hepurita.specs.declared.optimised.Optimisation.{Optimisation}
 use Rattle.hepurita.specs.declared.optimised.Optimisation.TheVariants.{Off, On, Small}
 use Rattle.optimisation.specs.high_products.Exact.{with_high_products}
+use Rattle.optimisation.specs.iteration_groups.Exact.{grouped_of}
 use Rattle.optimisation.specs.live_words.Exact.{shared_of}
 use Rattle.optimisation.specs.needed_variables.Exact.{fitted_of}
 use Rattle.optimisation.specs.number_words.Exact.{numbers_as_words}
@@ -36,12 +37,16 @@ abbrev pub finished_of : StraightProgram → StraightProgram
 finished_of straight = after fitted_where_shared (after simplified_of (after split_of straight))
 
 -- and of straight code as it is: first of all, upper words of products that it makes of halves are operators. Then its
--- loops stay, or they are unrolled
+-- loops stay, or they are unrolled, or in groups of iterations
 abbrev pub small_of : StraightProgram → StraightProgram
 small_of straight = finished_of (after simplified_of (after with_high_products straight))
 
+-- with four iterations of those that stay as one, where these are short
+abbrev pub finished_in_groups : StraightProgram → StraightProgram
+finished_in_groups straight = finished_of (after grouped_of straight)
+
 abbrev pub fast_of : StraightProgram → StraightProgram
-fast_of straight = finished_of (after unrolled_of (after with_high_products straight))
+fast_of straight = finished_in_groups (after unrolled_of (after with_high_products straight))
 
 -- the images that are tried for straight code where optimised code is asked for. Each is there where it is within the
 -- limit on words: for small code one with its loops, and else one with its loops unrolled first

@@ -5,7 +5,8 @@ ghost use Rattle.std.specs.Option.{option_map};
 ghost use Rattle.hepurita.specs.Below.{IsImage, IsWantOfMemory, optimised_fields_of};
 ghost use Rattle.hepurita.specs.Needs.{needs_as, optimised_needs};
 ghost use Rattle.hepurita.specs.CodeFor.{IsCodeFor};
-ghost use Rattle.hepurita.specs.Exact.{after, finished_of, fitted_where_shared, fitted_with_words, small_of, fast_of};
+ghost use Rattle.hepurita.specs.Exact.{after, fast_of, finished_in_groups, finished_of};
+ghost use Rattle.hepurita.specs.Exact.{fitted_where_shared, fitted_with_words, small_of};
 ghost use Rattle.optimisation.specs.needed_variables.Exact.{fitted_of};
 
 use crate::generated::Generated;
@@ -16,6 +17,7 @@ use language::Refusal;
 use optimisation::constants::{simplify, unroll};
 use optimisation::element_words::ElementWords;
 use optimisation::high_products::high_products;
+use optimisation::iteration_groups::IterationGroups;
 use optimisation::live_words::share_words;
 use optimisation::needed_variables::{needed_variables, with_needed};
 use optimisation::number_words::NumberWords;
@@ -129,8 +131,25 @@ fn finished(alloc: Global, straight: &StraightCode<'_>) -> Result<Option<Generat
     shared_code(alloc, simpler)
 }
 
-/// The optimised code of a program in which loops become their iterations, where it is within the limit on words. What
-/// it makes of halves of products is operators first. Only memory refuses it.
+/// The same of a program in which loops that stay are over groups of iterations first, where these are short.
+fn in_groups(alloc: Global, straight: &StraightCode<'_>) -> Result<Option<Generated>, Refusal>
+    ensures generated { IfOk result (λ made. IfSome made (IsCodeFor straight.now)) }
+    ensures exact { IfOk result (λ made.
+        option_map (λ made. made.code) made ≡ optimised_fields_of (finished_in_groups straight.now)) }
+    ensures needs { IfOk result (λ made. IfSome made
+        (λ made. needs_as made.needs ≡ optimised_needs (finished_in_groups straight.now))) }
+    ensures allowed { IfOk result (λ made. IfSome made (λ made. IsImage made.code)) }
+    ensures memory { IfErr result (λ refusal. IsWantOfMemory refusal.rule refusal.place) }
+{
+    let groups = IterationGroups::of(alloc, straight)?;
+    let with_groups = groups.apply(alloc, straight)?;
+    let code = made_or_given(&with_groups, straight);
+    replaced_is_removed();
+    finished(alloc, code)
+}
+
+/// The optimised code of a program in which loops become their iterations, or are over groups of them, where it is
+/// within the limit on words. What it makes of halves of products is operators first. Only memory refuses it.
 pub fn unrolled(alloc: Global, straight: &StraightCode<'_>) -> Result<Option<Generated>, Refusal>
     ensures generated { IfOk result (λ made. IfSome made (IsCodeFor straight.now)) }
     ensures exact { IfOk result (λ made.
@@ -145,7 +164,7 @@ pub fn unrolled(alloc: Global, straight: &StraightCode<'_>) -> Result<Option<Gen
     let without_loops = unroll(alloc, products)?;
     let code = made_or_given(&without_loops, products);
     replaced_is_removed();
-    finished(alloc, code)
+    in_groups(alloc, code)
 }
 
 /// The optimised code of a program in which all loops that make iterations stay, where it is within the limit on words.

@@ -5,7 +5,7 @@ use Rattle.std.proofs.lemmas.Option.{IfSome_then}
 use Rattle.std.proofs.lemmas.Result.{IfOk-weaker}
 use Rattle.hepurita.specs.Below.{optimised_fields_of, unrolled_of, StraightProgram}
 use Rattle.hepurita.specs.Needs.{needs_as, optimised_needs}
-use Rattle.hepurita.specs.Exact.{after, finished_of}
+use Rattle.hepurita.specs.Exact.{after, finished_in_groups}
 use Rattle.optimisation.specs.high_products.Exact.{with_high_products}
 use Rattle.hepurita.proofs.PassedOn.{after_pass, stands_on}
 use Rattle.hepurita.proofs.optimising.unrolled.Goals as goal
@@ -14,7 +14,7 @@ use Rattle.hepurita.proofs.optimising.unrolled.Goals as goal
 pub returns-clause-generated : goal.returns-clause-generated
 returns-clause-generated c =
     let law = c.replaced_is_removed.ensures in
-    IfOk-weaker c.finished.result _ _
+    IfOk-weaker c.in_groups.result _ _
     (λ made there.
     IfSome_then made there (λ code is. record {
       source = is.source;
@@ -26,7 +26,7 @@ returns-clause-generated c =
       generated = is.generated;
       follows = is.follows;
     }))
-    c.finished.ensures.generated
+    c.in_groups.ensures.generated
 
 pub returns-clause-exact : goal.returns-clause-exact
 returns-clause-exact c =
@@ -34,8 +34,8 @@ returns-clause-exact c =
     let code : c.made_or_given-code.result.now ≡ after unrolled_of (after with_high_products p) =
     after_pass unrolled_of _ _ _ _ c.made_or_given-code.ensures c.in_ok-without_loops.ensures.exact
     (after_pass with_high_products _ _ _ _ c.made_or_given-products.ensures c.in_ok-with_operators.ensures.exact refl) in
-    subst (λ (q : StraightProgram). IfOk c.finished.result
-    (λ made. option_map (λ made. made.code) made ≡ optimised_fields_of (finished_of q))) code c.finished.ensures.exact
+    subst (λ (q : StraightProgram). IfOk c.in_groups.result
+    (λ made. option_map (λ made. made.code) made ≡ optimised_fields_of (finished_in_groups q))) code c.in_groups.ensures.exact
 
 pub returns-clause-needs : goal.returns-clause-needs
 returns-clause-needs c =
@@ -43,5 +43,5 @@ returns-clause-needs c =
     let code : c.made_or_given-code.result.now ≡ after unrolled_of (after with_high_products p) =
     after_pass unrolled_of _ _ _ _ c.made_or_given-code.ensures c.in_ok-without_loops.ensures.exact
     (after_pass with_high_products _ _ _ _ c.made_or_given-products.ensures c.in_ok-with_operators.ensures.exact refl) in
-    subst (λ (q : StraightProgram). IfOk c.finished.result
-    (λ made. IfSome made (λ made. needs_as made.needs ≡ optimised_needs (finished_of q)))) code c.finished.ensures.needs
+    subst (λ (q : StraightProgram). IfOk c.in_groups.result
+    (λ made. IfSome made (λ made. needs_as made.needs ≡ optimised_needs (finished_in_groups q)))) code c.in_groups.ensures.needs
