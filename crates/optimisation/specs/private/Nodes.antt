@@ -1,5 +1,5 @@
--- About the nodes that expressions will have once counters are numbers: an index is mostly made of counters and numbers,
--- so a quarter of its nodes counts.
+-- About the nodes that expressions will have once counters are numbers: an index is mostly made of counters and
+-- numbers, so a quarter of its nodes counts.
 use Rattle.std.specs.Prelude.{ℕ, ◌+◌, ◌-◌, ◌/◌, ◌^◌, List, [], ◌∷◌, min}
 use Rattle.optimisation.specs.Below.{binary, convert, element, number, prefix, rotate, select, TermTree, truth}
 use Rattle.optimisation.specs.Below.{variable}

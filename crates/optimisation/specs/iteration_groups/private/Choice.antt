@@ -1,5 +1,5 @@
--- Which loops are grouped: those between two numbers that make at least sixteen iterations, whose body has few nodes and
--- no loop, sets the counter nowhere, and loses little in a group.
+-- Which loops are grouped: those between two numbers that make at least sixteen iterations, whose body has few nodes
+-- and no loop, sets the counter nowhere, and loses little in a group.
 use Rattle.std.specs.Prelude.{ℕ, ◌+◌, ◌-◌, ◌*◌, ◌/◌, ◌==◌, ◌&&◌, Bool, true, false, not, nat_le}
 use Rattle.std.specs.Prelude.{Option, None, Some, if◌then◌else◌}
 use Rattle.std.specs.Option.{option_and_then}

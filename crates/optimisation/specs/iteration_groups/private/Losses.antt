@@ -1,6 +1,6 @@
--- What an iteration loses in a group: where the counter is read, a sum of the base is made, but for an index that is the
--- counter, or differs from it by a number; and an array that might become words, if each iteration had code of its own,
--- stays one, which counts for more than there are nodes.
+-- What an iteration loses in a group: where the counter is read, a sum of the base is made, but not for an index that
+-- is the counter, or differs from it by a number; and an array that might become words, if each iteration had code of
+-- its own, stays one, which counts for more than there are nodes.
 use Rattle.std.specs.Prelude.{ℕ, ◌+◌, ◌==◌, ◌&&◌, ◌||◌, Bool, true, false, List, [], ◌∷◌, if◌then◌else◌, Option}
 use Rattle.std.specs.Prelude.{None, Some}
 use Rattle.optimisation.specs.Below.{Add, array, binary, BinaryOperator, branch, convert, element, first, nothing}
@@ -17,7 +17,7 @@ abbrev pub is_number : TermTree → Bool
 is_number (number value kind) = true
 is_number _ = false
 
--- a variable and a number, with this operator between them, of which the value is so much more or less than the variable
+-- a variable and a number, with an operator between them that makes the one so much more or less
 abbrev pub moves : BinaryOperator → TermTree → TermTree → Bool
 moves Add left right = (is_variable left && is_number right) || (is_number left && is_variable right)
 moves Subtract left right = is_variable left && is_number right
