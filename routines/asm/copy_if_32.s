@@ -1,4 +1,4 @@
-# copy_if_32: made by factc 1.0.0 function; 381 words, 96 bytes of stack, profile 1
+# copy_if_32: made by factc 1.0.0 function; 193 words, 96 bytes of stack, profile 1
     .option push
     .option norvc
     .option norelax
@@ -13,8 +13,6 @@ copy_if_32:
     .word 0xff010113  # addi x2, x2, -16
     .cfi_def_cfa_offset 16
     # the caller's registers
-    .word 0x00912023  # sw x9, 0(x2)
-    .cfi_offset 9, -16
     # arguments that are needed behind the body
     .word 0x00a12223  # sw x10, 4(x2)
     .word 0x00b12423  # sw x11, 8(x2)
@@ -96,231 +94,45 @@ copy_if_32:
     .word 0x01c2ae03  # lw x28, 28(x5)
     .word 0x01c32e23  # sw x28, 28(x6)
     # the body
-    .word 0x00012483  # lw x9, 0(x2)
-    .word 0x00414303  # lbu x6, 4(x2)
-    .word 0x02414383  # lbu x7, 36(x2)
-    .word 0x409002b3  # sub x5, x0, x9
+    .word 0x00012503  # lw x10, 0(x2)
+    .word 0x00000593  # addi x11, x0, 0
+    .word 0x00000613  # addi x12, x0, 0
+    .word 0x002606b3  # add x13, x12, x2
+    .word 0x00000593  # addi x11, x0, 0
+    .word 0x00259613  # slli x12, x11, 2
+    .word 0x002606b3  # add x13, x12, x2
+    .word 0x0046c303  # lbu x6, 4(x13)
+    .word 0x0246c383  # lbu x7, 36(x13)
+    .word 0x40a002b3  # sub x5, x0, x10
     .word 0x00734333  # xor x6, x6, x7
     .word 0x00537333  # and x6, x6, x5
     .word 0x0063c2b3  # xor x5, x7, x6
-    .word 0x02510223  # sb x5, 36(x2)
-    .word 0x00514303  # lbu x6, 5(x2)
-    .word 0x02514383  # lbu x7, 37(x2)
-    .word 0x409002b3  # sub x5, x0, x9
+    .word 0x02568223  # sb x5, 36(x13)
+    .word 0x0056c303  # lbu x6, 5(x13)
+    .word 0x0256c383  # lbu x7, 37(x13)
+    .word 0x40a002b3  # sub x5, x0, x10
     .word 0x00734333  # xor x6, x6, x7
     .word 0x00537333  # and x6, x6, x5
     .word 0x0063c2b3  # xor x5, x7, x6
-    .word 0x025102a3  # sb x5, 37(x2)
-    .word 0x00614303  # lbu x6, 6(x2)
-    .word 0x02614383  # lbu x7, 38(x2)
-    .word 0x409002b3  # sub x5, x0, x9
+    .word 0x025682a3  # sb x5, 37(x13)
+    .word 0x0066c303  # lbu x6, 6(x13)
+    .word 0x0266c383  # lbu x7, 38(x13)
+    .word 0x40a002b3  # sub x5, x0, x10
     .word 0x00734333  # xor x6, x6, x7
     .word 0x00537333  # and x6, x6, x5
     .word 0x0063c2b3  # xor x5, x7, x6
-    .word 0x02510323  # sb x5, 38(x2)
-    .word 0x00714303  # lbu x6, 7(x2)
-    .word 0x02714383  # lbu x7, 39(x2)
-    .word 0x409002b3  # sub x5, x0, x9
+    .word 0x02568323  # sb x5, 38(x13)
+    .word 0x0076c303  # lbu x6, 7(x13)
+    .word 0x0276c383  # lbu x7, 39(x13)
+    .word 0x40a002b3  # sub x5, x0, x10
     .word 0x00734333  # xor x6, x6, x7
     .word 0x00537333  # and x6, x6, x5
     .word 0x0063c2b3  # xor x5, x7, x6
-    .word 0x025103a3  # sb x5, 39(x2)
-    .word 0x00814303  # lbu x6, 8(x2)
-    .word 0x02814383  # lbu x7, 40(x2)
-    .word 0x409002b3  # sub x5, x0, x9
-    .word 0x00734333  # xor x6, x6, x7
-    .word 0x00537333  # and x6, x6, x5
-    .word 0x0063c2b3  # xor x5, x7, x6
-    .word 0x02510423  # sb x5, 40(x2)
-    .word 0x00914303  # lbu x6, 9(x2)
-    .word 0x02914383  # lbu x7, 41(x2)
-    .word 0x409002b3  # sub x5, x0, x9
-    .word 0x00734333  # xor x6, x6, x7
-    .word 0x00537333  # and x6, x6, x5
-    .word 0x0063c2b3  # xor x5, x7, x6
-    .word 0x025104a3  # sb x5, 41(x2)
-    .word 0x00a14303  # lbu x6, 10(x2)
-    .word 0x02a14383  # lbu x7, 42(x2)
-    .word 0x409002b3  # sub x5, x0, x9
-    .word 0x00734333  # xor x6, x6, x7
-    .word 0x00537333  # and x6, x6, x5
-    .word 0x0063c2b3  # xor x5, x7, x6
-    .word 0x02510523  # sb x5, 42(x2)
-    .word 0x00b14303  # lbu x6, 11(x2)
-    .word 0x02b14383  # lbu x7, 43(x2)
-    .word 0x409002b3  # sub x5, x0, x9
-    .word 0x00734333  # xor x6, x6, x7
-    .word 0x00537333  # and x6, x6, x5
-    .word 0x0063c2b3  # xor x5, x7, x6
-    .word 0x025105a3  # sb x5, 43(x2)
-    .word 0x00c14303  # lbu x6, 12(x2)
-    .word 0x02c14383  # lbu x7, 44(x2)
-    .word 0x409002b3  # sub x5, x0, x9
-    .word 0x00734333  # xor x6, x6, x7
-    .word 0x00537333  # and x6, x6, x5
-    .word 0x0063c2b3  # xor x5, x7, x6
-    .word 0x02510623  # sb x5, 44(x2)
-    .word 0x00d14303  # lbu x6, 13(x2)
-    .word 0x02d14383  # lbu x7, 45(x2)
-    .word 0x409002b3  # sub x5, x0, x9
-    .word 0x00734333  # xor x6, x6, x7
-    .word 0x00537333  # and x6, x6, x5
-    .word 0x0063c2b3  # xor x5, x7, x6
-    .word 0x025106a3  # sb x5, 45(x2)
-    .word 0x00e14303  # lbu x6, 14(x2)
-    .word 0x02e14383  # lbu x7, 46(x2)
-    .word 0x409002b3  # sub x5, x0, x9
-    .word 0x00734333  # xor x6, x6, x7
-    .word 0x00537333  # and x6, x6, x5
-    .word 0x0063c2b3  # xor x5, x7, x6
-    .word 0x02510723  # sb x5, 46(x2)
-    .word 0x00f14303  # lbu x6, 15(x2)
-    .word 0x02f14383  # lbu x7, 47(x2)
-    .word 0x409002b3  # sub x5, x0, x9
-    .word 0x00734333  # xor x6, x6, x7
-    .word 0x00537333  # and x6, x6, x5
-    .word 0x0063c2b3  # xor x5, x7, x6
-    .word 0x025107a3  # sb x5, 47(x2)
-    .word 0x01014303  # lbu x6, 16(x2)
-    .word 0x03014383  # lbu x7, 48(x2)
-    .word 0x409002b3  # sub x5, x0, x9
-    .word 0x00734333  # xor x6, x6, x7
-    .word 0x00537333  # and x6, x6, x5
-    .word 0x0063c2b3  # xor x5, x7, x6
-    .word 0x02510823  # sb x5, 48(x2)
-    .word 0x01114303  # lbu x6, 17(x2)
-    .word 0x03114383  # lbu x7, 49(x2)
-    .word 0x409002b3  # sub x5, x0, x9
-    .word 0x00734333  # xor x6, x6, x7
-    .word 0x00537333  # and x6, x6, x5
-    .word 0x0063c2b3  # xor x5, x7, x6
-    .word 0x025108a3  # sb x5, 49(x2)
-    .word 0x01214303  # lbu x6, 18(x2)
-    .word 0x03214383  # lbu x7, 50(x2)
-    .word 0x409002b3  # sub x5, x0, x9
-    .word 0x00734333  # xor x6, x6, x7
-    .word 0x00537333  # and x6, x6, x5
-    .word 0x0063c2b3  # xor x5, x7, x6
-    .word 0x02510923  # sb x5, 50(x2)
-    .word 0x01314303  # lbu x6, 19(x2)
-    .word 0x03314383  # lbu x7, 51(x2)
-    .word 0x409002b3  # sub x5, x0, x9
-    .word 0x00734333  # xor x6, x6, x7
-    .word 0x00537333  # and x6, x6, x5
-    .word 0x0063c2b3  # xor x5, x7, x6
-    .word 0x025109a3  # sb x5, 51(x2)
-    .word 0x01414303  # lbu x6, 20(x2)
-    .word 0x03414383  # lbu x7, 52(x2)
-    .word 0x409002b3  # sub x5, x0, x9
-    .word 0x00734333  # xor x6, x6, x7
-    .word 0x00537333  # and x6, x6, x5
-    .word 0x0063c2b3  # xor x5, x7, x6
-    .word 0x02510a23  # sb x5, 52(x2)
-    .word 0x01514303  # lbu x6, 21(x2)
-    .word 0x03514383  # lbu x7, 53(x2)
-    .word 0x409002b3  # sub x5, x0, x9
-    .word 0x00734333  # xor x6, x6, x7
-    .word 0x00537333  # and x6, x6, x5
-    .word 0x0063c2b3  # xor x5, x7, x6
-    .word 0x02510aa3  # sb x5, 53(x2)
-    .word 0x01614303  # lbu x6, 22(x2)
-    .word 0x03614383  # lbu x7, 54(x2)
-    .word 0x409002b3  # sub x5, x0, x9
-    .word 0x00734333  # xor x6, x6, x7
-    .word 0x00537333  # and x6, x6, x5
-    .word 0x0063c2b3  # xor x5, x7, x6
-    .word 0x02510b23  # sb x5, 54(x2)
-    .word 0x01714303  # lbu x6, 23(x2)
-    .word 0x03714383  # lbu x7, 55(x2)
-    .word 0x409002b3  # sub x5, x0, x9
-    .word 0x00734333  # xor x6, x6, x7
-    .word 0x00537333  # and x6, x6, x5
-    .word 0x0063c2b3  # xor x5, x7, x6
-    .word 0x02510ba3  # sb x5, 55(x2)
-    .word 0x01814303  # lbu x6, 24(x2)
-    .word 0x03814383  # lbu x7, 56(x2)
-    .word 0x409002b3  # sub x5, x0, x9
-    .word 0x00734333  # xor x6, x6, x7
-    .word 0x00537333  # and x6, x6, x5
-    .word 0x0063c2b3  # xor x5, x7, x6
-    .word 0x02510c23  # sb x5, 56(x2)
-    .word 0x01914303  # lbu x6, 25(x2)
-    .word 0x03914383  # lbu x7, 57(x2)
-    .word 0x409002b3  # sub x5, x0, x9
-    .word 0x00734333  # xor x6, x6, x7
-    .word 0x00537333  # and x6, x6, x5
-    .word 0x0063c2b3  # xor x5, x7, x6
-    .word 0x02510ca3  # sb x5, 57(x2)
-    .word 0x01a14303  # lbu x6, 26(x2)
-    .word 0x03a14383  # lbu x7, 58(x2)
-    .word 0x409002b3  # sub x5, x0, x9
-    .word 0x00734333  # xor x6, x6, x7
-    .word 0x00537333  # and x6, x6, x5
-    .word 0x0063c2b3  # xor x5, x7, x6
-    .word 0x02510d23  # sb x5, 58(x2)
-    .word 0x01b14303  # lbu x6, 27(x2)
-    .word 0x03b14383  # lbu x7, 59(x2)
-    .word 0x409002b3  # sub x5, x0, x9
-    .word 0x00734333  # xor x6, x6, x7
-    .word 0x00537333  # and x6, x6, x5
-    .word 0x0063c2b3  # xor x5, x7, x6
-    .word 0x02510da3  # sb x5, 59(x2)
-    .word 0x01c14303  # lbu x6, 28(x2)
-    .word 0x03c14383  # lbu x7, 60(x2)
-    .word 0x409002b3  # sub x5, x0, x9
-    .word 0x00734333  # xor x6, x6, x7
-    .word 0x00537333  # and x6, x6, x5
-    .word 0x0063c2b3  # xor x5, x7, x6
-    .word 0x02510e23  # sb x5, 60(x2)
-    .word 0x01d14303  # lbu x6, 29(x2)
-    .word 0x03d14383  # lbu x7, 61(x2)
-    .word 0x409002b3  # sub x5, x0, x9
-    .word 0x00734333  # xor x6, x6, x7
-    .word 0x00537333  # and x6, x6, x5
-    .word 0x0063c2b3  # xor x5, x7, x6
-    .word 0x02510ea3  # sb x5, 61(x2)
-    .word 0x01e14303  # lbu x6, 30(x2)
-    .word 0x03e14383  # lbu x7, 62(x2)
-    .word 0x409002b3  # sub x5, x0, x9
-    .word 0x00734333  # xor x6, x6, x7
-    .word 0x00537333  # and x6, x6, x5
-    .word 0x0063c2b3  # xor x5, x7, x6
-    .word 0x02510f23  # sb x5, 62(x2)
-    .word 0x01f14303  # lbu x6, 31(x2)
-    .word 0x03f14383  # lbu x7, 63(x2)
-    .word 0x409002b3  # sub x5, x0, x9
-    .word 0x00734333  # xor x6, x6, x7
-    .word 0x00537333  # and x6, x6, x5
-    .word 0x0063c2b3  # xor x5, x7, x6
-    .word 0x02510fa3  # sb x5, 63(x2)
-    .word 0x02014303  # lbu x6, 32(x2)
-    .word 0x04014383  # lbu x7, 64(x2)
-    .word 0x409002b3  # sub x5, x0, x9
-    .word 0x00734333  # xor x6, x6, x7
-    .word 0x00537333  # and x6, x6, x5
-    .word 0x0063c2b3  # xor x5, x7, x6
-    .word 0x04510023  # sb x5, 64(x2)
-    .word 0x02114303  # lbu x6, 33(x2)
-    .word 0x04114383  # lbu x7, 65(x2)
-    .word 0x409002b3  # sub x5, x0, x9
-    .word 0x00734333  # xor x6, x6, x7
-    .word 0x00537333  # and x6, x6, x5
-    .word 0x0063c2b3  # xor x5, x7, x6
-    .word 0x045100a3  # sb x5, 65(x2)
-    .word 0x02214303  # lbu x6, 34(x2)
-    .word 0x04214383  # lbu x7, 66(x2)
-    .word 0x409002b3  # sub x5, x0, x9
-    .word 0x00734333  # xor x6, x6, x7
-    .word 0x00537333  # and x6, x6, x5
-    .word 0x0063c2b3  # xor x5, x7, x6
-    .word 0x04510123  # sb x5, 66(x2)
-    .word 0x02314303  # lbu x6, 35(x2)
-    .word 0x04314383  # lbu x7, 67(x2)
-    .word 0x409002b3  # sub x5, x0, x9
-    .word 0x00734333  # xor x6, x6, x7
-    .word 0x00537333  # and x6, x6, x5
-    .word 0x0063c2b3  # xor x5, x7, x6
-    .word 0x045101a3  # sb x5, 67(x2)
+    .word 0x025683a3  # sb x5, 39(x13)
+    .word 0x00158593  # addi x11, x11, 1
+    .word 0x0085b293  # sltiu x5, x11, 8
+    .word 0xf80290e3  # bne x5, x0, -128
+    .word 0xfff58593  # addi x11, x11, -1
     # the result
     .word 0x00000513  # addi x10, x0, 0
     # parameter 2: the array, back
@@ -361,8 +173,6 @@ copy_if_32:
     # above the frame
     .word 0x05010293  # addi x5, x2, 80
     # the caller's registers
-    .word 0x0002a483  # lw x9, 0(x5)
-    .cfi_restore 9
     # the caller's x2
     .word 0x01028293  # addi x5, x5, 16
     .cfi_def_cfa 5, 0

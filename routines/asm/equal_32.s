@@ -1,4 +1,4 @@
-# equal_32: made by factc 1.0.0 function; 246 words, 96 bytes of stack, profile 1
+# equal_32: made by factc 1.0.0 function; 146 words, 96 bytes of stack, profile 1
     .option push
     .option norvc
     .option norelax
@@ -13,8 +13,8 @@ equal_32:
     .word 0xff010113  # addi x2, x2, -16
     .cfi_def_cfa_offset 16
     # the caller's registers
-    .word 0x00812023  # sw x8, 0(x2)
-    .cfi_offset 8, -16
+    .word 0x00912023  # sw x9, 0(x2)
+    .cfi_offset 9, -16
     # arguments that are needed behind the body
     # the frame's base
     .word 0xfb010113  # addi x2, x2, -80
@@ -90,142 +90,42 @@ equal_32:
     .word 0x01c2ae03  # lw x28, 28(x5)
     .word 0x01c32e23  # sw x28, 28(x6)
     # the body
-    .word 0x00014283  # lbu x5, 0(x2)
-    .word 0x02014303  # lbu x6, 32(x2)
-    .word 0x0062c433  # xor x8, x5, x6
-    .word 0x00114303  # lbu x6, 1(x2)
-    .word 0x02114383  # lbu x7, 33(x2)
+    .word 0x00000513  # addi x10, x0, 0
+    .word 0x00000593  # addi x11, x0, 0
+    .word 0x00258633  # add x12, x11, x2
+    .word 0x00000493  # addi x9, x0, 0
+    .word 0x00000513  # addi x10, x0, 0
+    .word 0x00251593  # slli x11, x10, 2
+    .word 0x00258633  # add x12, x11, x2
+    .word 0x00064303  # lbu x6, 0(x12)
+    .word 0x02064383  # lbu x7, 32(x12)
     .word 0x00734333  # xor x6, x6, x7
-    .word 0x00646433  # or x8, x8, x6
-    .word 0x00214303  # lbu x6, 2(x2)
-    .word 0x02214383  # lbu x7, 34(x2)
+    .word 0x0064e4b3  # or x9, x9, x6
+    .word 0x00164303  # lbu x6, 1(x12)
+    .word 0x02164383  # lbu x7, 33(x12)
     .word 0x00734333  # xor x6, x6, x7
-    .word 0x00646433  # or x8, x8, x6
-    .word 0x00314303  # lbu x6, 3(x2)
-    .word 0x02314383  # lbu x7, 35(x2)
+    .word 0x0064e4b3  # or x9, x9, x6
+    .word 0x00264303  # lbu x6, 2(x12)
+    .word 0x02264383  # lbu x7, 34(x12)
     .word 0x00734333  # xor x6, x6, x7
-    .word 0x00646433  # or x8, x8, x6
-    .word 0x00414303  # lbu x6, 4(x2)
-    .word 0x02414383  # lbu x7, 36(x2)
+    .word 0x0064e4b3  # or x9, x9, x6
+    .word 0x00364303  # lbu x6, 3(x12)
+    .word 0x02364383  # lbu x7, 35(x12)
     .word 0x00734333  # xor x6, x6, x7
-    .word 0x00646433  # or x8, x8, x6
-    .word 0x00514303  # lbu x6, 5(x2)
-    .word 0x02514383  # lbu x7, 37(x2)
-    .word 0x00734333  # xor x6, x6, x7
-    .word 0x00646433  # or x8, x8, x6
-    .word 0x00614303  # lbu x6, 6(x2)
-    .word 0x02614383  # lbu x7, 38(x2)
-    .word 0x00734333  # xor x6, x6, x7
-    .word 0x00646433  # or x8, x8, x6
-    .word 0x00714303  # lbu x6, 7(x2)
-    .word 0x02714383  # lbu x7, 39(x2)
-    .word 0x00734333  # xor x6, x6, x7
-    .word 0x00646433  # or x8, x8, x6
-    .word 0x00814303  # lbu x6, 8(x2)
-    .word 0x02814383  # lbu x7, 40(x2)
-    .word 0x00734333  # xor x6, x6, x7
-    .word 0x00646433  # or x8, x8, x6
-    .word 0x00914303  # lbu x6, 9(x2)
-    .word 0x02914383  # lbu x7, 41(x2)
-    .word 0x00734333  # xor x6, x6, x7
-    .word 0x00646433  # or x8, x8, x6
-    .word 0x00a14303  # lbu x6, 10(x2)
-    .word 0x02a14383  # lbu x7, 42(x2)
-    .word 0x00734333  # xor x6, x6, x7
-    .word 0x00646433  # or x8, x8, x6
-    .word 0x00b14303  # lbu x6, 11(x2)
-    .word 0x02b14383  # lbu x7, 43(x2)
-    .word 0x00734333  # xor x6, x6, x7
-    .word 0x00646433  # or x8, x8, x6
-    .word 0x00c14303  # lbu x6, 12(x2)
-    .word 0x02c14383  # lbu x7, 44(x2)
-    .word 0x00734333  # xor x6, x6, x7
-    .word 0x00646433  # or x8, x8, x6
-    .word 0x00d14303  # lbu x6, 13(x2)
-    .word 0x02d14383  # lbu x7, 45(x2)
-    .word 0x00734333  # xor x6, x6, x7
-    .word 0x00646433  # or x8, x8, x6
-    .word 0x00e14303  # lbu x6, 14(x2)
-    .word 0x02e14383  # lbu x7, 46(x2)
-    .word 0x00734333  # xor x6, x6, x7
-    .word 0x00646433  # or x8, x8, x6
-    .word 0x00f14303  # lbu x6, 15(x2)
-    .word 0x02f14383  # lbu x7, 47(x2)
-    .word 0x00734333  # xor x6, x6, x7
-    .word 0x00646433  # or x8, x8, x6
-    .word 0x01014303  # lbu x6, 16(x2)
-    .word 0x03014383  # lbu x7, 48(x2)
-    .word 0x00734333  # xor x6, x6, x7
-    .word 0x00646433  # or x8, x8, x6
-    .word 0x01114303  # lbu x6, 17(x2)
-    .word 0x03114383  # lbu x7, 49(x2)
-    .word 0x00734333  # xor x6, x6, x7
-    .word 0x00646433  # or x8, x8, x6
-    .word 0x01214303  # lbu x6, 18(x2)
-    .word 0x03214383  # lbu x7, 50(x2)
-    .word 0x00734333  # xor x6, x6, x7
-    .word 0x00646433  # or x8, x8, x6
-    .word 0x01314303  # lbu x6, 19(x2)
-    .word 0x03314383  # lbu x7, 51(x2)
-    .word 0x00734333  # xor x6, x6, x7
-    .word 0x00646433  # or x8, x8, x6
-    .word 0x01414303  # lbu x6, 20(x2)
-    .word 0x03414383  # lbu x7, 52(x2)
-    .word 0x00734333  # xor x6, x6, x7
-    .word 0x00646433  # or x8, x8, x6
-    .word 0x01514303  # lbu x6, 21(x2)
-    .word 0x03514383  # lbu x7, 53(x2)
-    .word 0x00734333  # xor x6, x6, x7
-    .word 0x00646433  # or x8, x8, x6
-    .word 0x01614303  # lbu x6, 22(x2)
-    .word 0x03614383  # lbu x7, 54(x2)
-    .word 0x00734333  # xor x6, x6, x7
-    .word 0x00646433  # or x8, x8, x6
-    .word 0x01714303  # lbu x6, 23(x2)
-    .word 0x03714383  # lbu x7, 55(x2)
-    .word 0x00734333  # xor x6, x6, x7
-    .word 0x00646433  # or x8, x8, x6
-    .word 0x01814303  # lbu x6, 24(x2)
-    .word 0x03814383  # lbu x7, 56(x2)
-    .word 0x00734333  # xor x6, x6, x7
-    .word 0x00646433  # or x8, x8, x6
-    .word 0x01914303  # lbu x6, 25(x2)
-    .word 0x03914383  # lbu x7, 57(x2)
-    .word 0x00734333  # xor x6, x6, x7
-    .word 0x00646433  # or x8, x8, x6
-    .word 0x01a14303  # lbu x6, 26(x2)
-    .word 0x03a14383  # lbu x7, 58(x2)
-    .word 0x00734333  # xor x6, x6, x7
-    .word 0x00646433  # or x8, x8, x6
-    .word 0x01b14303  # lbu x6, 27(x2)
-    .word 0x03b14383  # lbu x7, 59(x2)
-    .word 0x00734333  # xor x6, x6, x7
-    .word 0x00646433  # or x8, x8, x6
-    .word 0x01c14303  # lbu x6, 28(x2)
-    .word 0x03c14383  # lbu x7, 60(x2)
-    .word 0x00734333  # xor x6, x6, x7
-    .word 0x00646433  # or x8, x8, x6
-    .word 0x01d14303  # lbu x6, 29(x2)
-    .word 0x03d14383  # lbu x7, 61(x2)
-    .word 0x00734333  # xor x6, x6, x7
-    .word 0x00646433  # or x8, x8, x6
-    .word 0x01e14303  # lbu x6, 30(x2)
-    .word 0x03e14383  # lbu x7, 62(x2)
-    .word 0x00734333  # xor x6, x6, x7
-    .word 0x00646433  # or x8, x8, x6
-    .word 0x01f14303  # lbu x6, 31(x2)
-    .word 0x03f14383  # lbu x7, 63(x2)
-    .word 0x00734333  # xor x6, x6, x7
-    .word 0x00646433  # or x8, x8, x6
-    .word 0x00143293  # sltiu x5, x8, 1
+    .word 0x0064e4b3  # or x9, x9, x6
+    .word 0x00150513  # addi x10, x10, 1
+    .word 0x00853293  # sltiu x5, x10, 8
+    .word 0xfa0298e3  # bne x5, x0, -80
+    .word 0xfff50513  # addi x10, x10, -1
+    .word 0x0014b293  # sltiu x5, x9, 1
     .word 0x04512023  # sw x5, 64(x2)
     # the result
     .word 0x04012503  # lw x10, 64(x2)
     # above the frame
     .word 0x05010293  # addi x5, x2, 80
     # the caller's registers
-    .word 0x0002a403  # lw x8, 0(x5)
-    .cfi_restore 8
+    .word 0x0002a483  # lw x9, 0(x5)
+    .cfi_restore 9
     # the caller's x2
     .word 0x01028293  # addi x5, x5, 16
     .cfi_def_cfa 5, 0

@@ -1,4 +1,4 @@
-# is_zero_32: made by factc 1.0.0 function; 139 words, 64 bytes of stack, profile 1
+# is_zero_32: made by factc 1.0.0 function; 97 words, 64 bytes of stack, profile 1
     .option push
     .option norvc
     .option norelax
@@ -15,6 +15,8 @@ is_zero_32:
     # the caller's registers
     .word 0x00812023  # sw x8, 0(x2)
     .cfi_offset 8, -16
+    .word 0x00912223  # sw x9, 4(x2)
+    .cfi_offset 9, -12
     # arguments that are needed behind the body
     # the frame's base
     .word 0xfd010113  # addi x2, x2, -48
@@ -55,69 +57,25 @@ is_zero_32:
     .word 0x01c2ae03  # lw x28, 28(x5)
     .word 0x01c32e23  # sw x28, 28(x6)
     # the body
-    .word 0x00014403  # lbu x8, 0(x2)
-    .word 0x00114303  # lbu x6, 1(x2)
+    .word 0x00000493  # addi x9, x0, 0
+    .word 0x00000513  # addi x10, x0, 0
+    .word 0x002505b3  # add x11, x10, x2
+    .word 0x00000413  # addi x8, x0, 0
+    .word 0x00000493  # addi x9, x0, 0
+    .word 0x00249513  # slli x10, x9, 2
+    .word 0x002505b3  # add x11, x10, x2
+    .word 0x0005c303  # lbu x6, 0(x11)
     .word 0x00646433  # or x8, x8, x6
-    .word 0x00214303  # lbu x6, 2(x2)
+    .word 0x0015c303  # lbu x6, 1(x11)
     .word 0x00646433  # or x8, x8, x6
-    .word 0x00314303  # lbu x6, 3(x2)
+    .word 0x0025c303  # lbu x6, 2(x11)
     .word 0x00646433  # or x8, x8, x6
-    .word 0x00414303  # lbu x6, 4(x2)
+    .word 0x0035c303  # lbu x6, 3(x11)
     .word 0x00646433  # or x8, x8, x6
-    .word 0x00514303  # lbu x6, 5(x2)
-    .word 0x00646433  # or x8, x8, x6
-    .word 0x00614303  # lbu x6, 6(x2)
-    .word 0x00646433  # or x8, x8, x6
-    .word 0x00714303  # lbu x6, 7(x2)
-    .word 0x00646433  # or x8, x8, x6
-    .word 0x00814303  # lbu x6, 8(x2)
-    .word 0x00646433  # or x8, x8, x6
-    .word 0x00914303  # lbu x6, 9(x2)
-    .word 0x00646433  # or x8, x8, x6
-    .word 0x00a14303  # lbu x6, 10(x2)
-    .word 0x00646433  # or x8, x8, x6
-    .word 0x00b14303  # lbu x6, 11(x2)
-    .word 0x00646433  # or x8, x8, x6
-    .word 0x00c14303  # lbu x6, 12(x2)
-    .word 0x00646433  # or x8, x8, x6
-    .word 0x00d14303  # lbu x6, 13(x2)
-    .word 0x00646433  # or x8, x8, x6
-    .word 0x00e14303  # lbu x6, 14(x2)
-    .word 0x00646433  # or x8, x8, x6
-    .word 0x00f14303  # lbu x6, 15(x2)
-    .word 0x00646433  # or x8, x8, x6
-    .word 0x01014303  # lbu x6, 16(x2)
-    .word 0x00646433  # or x8, x8, x6
-    .word 0x01114303  # lbu x6, 17(x2)
-    .word 0x00646433  # or x8, x8, x6
-    .word 0x01214303  # lbu x6, 18(x2)
-    .word 0x00646433  # or x8, x8, x6
-    .word 0x01314303  # lbu x6, 19(x2)
-    .word 0x00646433  # or x8, x8, x6
-    .word 0x01414303  # lbu x6, 20(x2)
-    .word 0x00646433  # or x8, x8, x6
-    .word 0x01514303  # lbu x6, 21(x2)
-    .word 0x00646433  # or x8, x8, x6
-    .word 0x01614303  # lbu x6, 22(x2)
-    .word 0x00646433  # or x8, x8, x6
-    .word 0x01714303  # lbu x6, 23(x2)
-    .word 0x00646433  # or x8, x8, x6
-    .word 0x01814303  # lbu x6, 24(x2)
-    .word 0x00646433  # or x8, x8, x6
-    .word 0x01914303  # lbu x6, 25(x2)
-    .word 0x00646433  # or x8, x8, x6
-    .word 0x01a14303  # lbu x6, 26(x2)
-    .word 0x00646433  # or x8, x8, x6
-    .word 0x01b14303  # lbu x6, 27(x2)
-    .word 0x00646433  # or x8, x8, x6
-    .word 0x01c14303  # lbu x6, 28(x2)
-    .word 0x00646433  # or x8, x8, x6
-    .word 0x01d14303  # lbu x6, 29(x2)
-    .word 0x00646433  # or x8, x8, x6
-    .word 0x01e14303  # lbu x6, 30(x2)
-    .word 0x00646433  # or x8, x8, x6
-    .word 0x01f14303  # lbu x6, 31(x2)
-    .word 0x00646433  # or x8, x8, x6
+    .word 0x00148493  # addi x9, x9, 1
+    .word 0x0084b293  # sltiu x5, x9, 8
+    .word 0xfc0298e3  # bne x5, x0, -48
+    .word 0xfff48493  # addi x9, x9, -1
     .word 0x00143293  # sltiu x5, x8, 1
     .word 0x02512023  # sw x5, 32(x2)
     # the result
@@ -127,6 +85,8 @@ is_zero_32:
     # the caller's registers
     .word 0x0002a403  # lw x8, 0(x5)
     .cfi_restore 8
+    .word 0x0042a483  # lw x9, 4(x5)
+    .cfi_restore 9
     # the caller's x2
     .word 0x01028293  # addi x5, x5, 16
     .cfi_def_cfa 5, 0

@@ -1,4 +1,4 @@
-# mlkem_compress: made by factc 1.0.0 function; 161 words, 544 bytes of stack, profile 1
+# mlkem_compress: made by factc 1.0.0 function; 180 words, 544 bytes of stack, profile 1
     .option push
     .option norvc
     .option norelax
@@ -68,33 +68,52 @@ mlkem_compress:
     .word 0x20012403  # lw x8, 512(x2)
     .word 0x00000593  # addi x11, x0, 0
     .word 0x00000613  # addi x12, x0, 0
-    .word 0x00159713  # slli x14, x11, 1
-    .word 0x00270733  # add x14, x14, x2
-    .word 0x9d7dc6b7  # lui x13, 0x9d7dc
-    .word 0xb4168693  # addi x13, x13, -1215
+    .word 0x00000693  # addi x13, x0, 0
+    .word 0x00169793  # slli x15, x13, 1
+    .word 0x002787b3  # add x15, x15, x2
+    .word 0x9d7dc737  # lui x14, 0x9d7dc
+    .word 0xb4170713  # addi x14, x14, -1215
     .word 0x00c00313  # addi x6, x0, 12
     .word 0x026474b3  # remu x9, x8, x6
     .word 0x00100293  # addi x5, x0, 1
     .word 0x009292b3  # sll x5, x5, x9
     .word 0xfff28513  # addi x10, x5, -1
     .word 0x00000593  # addi x11, x0, 0
-    .word 0x00159713  # slli x14, x11, 1
-    .word 0x00270733  # add x14, x14, x2
-    .word 0x00075283  # lhu x5, 0(x14)
+    .word 0x00259693  # slli x13, x11, 2
+    .word 0x00169793  # slli x15, x13, 1
+    .word 0x002787b3  # add x15, x15, x2
+    .word 0x0007d283  # lhu x5, 0(x15)
     .word 0x009292b3  # sll x5, x5, x9
     .word 0x68028613  # addi x12, x5, 1664
-    .word 0x02d63633  # mulhu x12, x12, x13
+    .word 0x02e63633  # mulhu x12, x12, x14
     .word 0x00b65293  # srli x5, x12, 11
     .word 0x00a2f2b3  # and x5, x5, x10
-    .word 0x00571023  # sh x5, 0(x14)
+    .word 0x00579023  # sh x5, 0(x15)
+    .word 0x0027d283  # lhu x5, 2(x15)
+    .word 0x009292b3  # sll x5, x5, x9
+    .word 0x68028613  # addi x12, x5, 1664
+    .word 0x02e63633  # mulhu x12, x12, x14
+    .word 0x00b65293  # srli x5, x12, 11
+    .word 0x00a2f2b3  # and x5, x5, x10
+    .word 0x00579123  # sh x5, 2(x15)
+    .word 0x0047d283  # lhu x5, 4(x15)
+    .word 0x009292b3  # sll x5, x5, x9
+    .word 0x68028613  # addi x12, x5, 1664
+    .word 0x02e63633  # mulhu x12, x12, x14
+    .word 0x00b65293  # srli x5, x12, 11
+    .word 0x00a2f2b3  # and x5, x5, x10
+    .word 0x00579223  # sh x5, 4(x15)
+    .word 0x0067d283  # lhu x5, 6(x15)
+    .word 0x009292b3  # sll x5, x5, x9
+    .word 0x68028613  # addi x12, x5, 1664
+    .word 0x02e63633  # mulhu x12, x12, x14
+    .word 0x00b65293  # srli x5, x12, 11
+    .word 0x00a2f2b3  # and x5, x5, x10
+    .word 0x00579323  # sh x5, 6(x15)
     .word 0x00158593  # addi x11, x11, 1
-    .word 0x00159713  # slli x14, x11, 1
-    .word 0x00270733  # add x14, x14, x2
-    .word 0x1005b293  # sltiu x5, x11, 256
-    .word 0xfc029ae3  # bne x5, x0, -44
+    .word 0x0405b293  # sltiu x5, x11, 64
+    .word 0xf6029ee3  # bne x5, x0, -132
     .word 0xfff58593  # addi x11, x11, -1
-    .word 0x00159713  # slli x14, x11, 1
-    .word 0x00270733  # add x14, x14, x2
     # the result
     .word 0x00000513  # addi x10, x0, 0
     # parameter 0: the array, back

@@ -1,4 +1,4 @@
-# mlkem_decompress: made by factc 1.0.0 function; 159 words, 544 bytes of stack, profile 1
+# mlkem_decompress: made by factc 1.0.0 function; 172 words, 544 bytes of stack, profile 1
     .option push
     .option norvc
     .option norelax
@@ -68,8 +68,9 @@ mlkem_decompress:
     .word 0x20012403  # lw x8, 512(x2)
     .word 0x00000613  # addi x12, x0, 0
     .word 0x00000693  # addi x13, x0, 0
-    .word 0x00161713  # slli x14, x12, 1
-    .word 0x00270733  # add x14, x14, x2
+    .word 0x00000713  # addi x14, x0, 0
+    .word 0x00171793  # slli x15, x14, 1
+    .word 0x002787b3  # add x15, x15, x2
     .word 0x00c00313  # addi x6, x0, 12
     .word 0x026474b3  # remu x9, x8, x6
     .word 0x00100293  # addi x5, x0, 1
@@ -78,21 +79,33 @@ mlkem_decompress:
     .word 0x000015b7  # lui x11, 0x00001
     .word 0xd0158593  # addi x11, x11, -767
     .word 0x00000613  # addi x12, x0, 0
-    .word 0x00161713  # slli x14, x12, 1
-    .word 0x00270733  # add x14, x14, x2
-    .word 0x00075283  # lhu x5, 0(x14)
+    .word 0x00261713  # slli x14, x12, 2
+    .word 0x00171793  # slli x15, x14, 1
+    .word 0x002787b3  # add x15, x15, x2
+    .word 0x0007d283  # lhu x5, 0(x15)
     .word 0x02b282b3  # mul x5, x5, x11
     .word 0x00a286b3  # add x13, x5, x10
     .word 0x0096d2b3  # srl x5, x13, x9
-    .word 0x00571023  # sh x5, 0(x14)
+    .word 0x00579023  # sh x5, 0(x15)
+    .word 0x0027d283  # lhu x5, 2(x15)
+    .word 0x02b282b3  # mul x5, x5, x11
+    .word 0x00a286b3  # add x13, x5, x10
+    .word 0x0096d2b3  # srl x5, x13, x9
+    .word 0x00579123  # sh x5, 2(x15)
+    .word 0x0047d283  # lhu x5, 4(x15)
+    .word 0x02b282b3  # mul x5, x5, x11
+    .word 0x00a286b3  # add x13, x5, x10
+    .word 0x0096d2b3  # srl x5, x13, x9
+    .word 0x00579223  # sh x5, 4(x15)
+    .word 0x0067d283  # lhu x5, 6(x15)
+    .word 0x02b282b3  # mul x5, x5, x11
+    .word 0x00a286b3  # add x13, x5, x10
+    .word 0x0096d2b3  # srl x5, x13, x9
+    .word 0x00579323  # sh x5, 6(x15)
     .word 0x00160613  # addi x12, x12, 1
-    .word 0x00161713  # slli x14, x12, 1
-    .word 0x00270733  # add x14, x14, x2
-    .word 0x10063293  # sltiu x5, x12, 256
-    .word 0xfc029ee3  # bne x5, x0, -36
+    .word 0x04063293  # sltiu x5, x12, 64
+    .word 0xf8029ee3  # bne x5, x0, -100
     .word 0xfff60613  # addi x12, x12, -1
-    .word 0x00161713  # slli x14, x12, 1
-    .word 0x00270733  # add x14, x14, x2
     # the result
     .word 0x00000513  # addi x10, x0, 0
     # parameter 0: the array, back

@@ -1,4 +1,4 @@
-# mlkem_subtract: made by factc 1.0.0 function; 194 words, 1056 bytes of stack, profile 1
+# mlkem_subtract: made by factc 1.0.0 function; 213 words, 1056 bytes of stack, profile 1
     .option push
     .option norvc
     .option norelax
@@ -106,28 +106,47 @@ mlkem_subtract:
     .word 0x00000493  # addi x9, x0, 0
     .word 0x00000513  # addi x10, x0, 0
     .word 0x00000593  # addi x11, x0, 0
-    .word 0x00149613  # slli x12, x9, 1
-    .word 0x00260633  # add x12, x12, x2
+    .word 0x00000613  # addi x12, x0, 0
+    .word 0x00161693  # slli x13, x12, 1
+    .word 0x002686b3  # add x13, x13, x2
     .word 0x00001437  # lui x8, 0x00001
     .word 0xd0140413  # addi x8, x8, -767
     .word 0x00000493  # addi x9, x0, 0
-    .word 0x00149613  # slli x12, x9, 1
-    .word 0x00260633  # add x12, x12, x2
-    .word 0x00065283  # lhu x5, 0(x12)
-    .word 0x20065303  # lhu x6, 512(x12)
+    .word 0x00249613  # slli x12, x9, 2
+    .word 0x00161693  # slli x13, x12, 1
+    .word 0x002686b3  # add x13, x13, x2
+    .word 0x0006d283  # lhu x5, 0(x13)
+    .word 0x2006d303  # lhu x6, 512(x13)
     .word 0x40628533  # sub x10, x5, x6
     .word 0x01055293  # srli x5, x10, 16
     .word 0x0082f5b3  # and x11, x5, x8
     .word 0x00b502b3  # add x5, x10, x11
-    .word 0x00561023  # sh x5, 0(x12)
+    .word 0x00569023  # sh x5, 0(x13)
+    .word 0x0026d283  # lhu x5, 2(x13)
+    .word 0x2026d303  # lhu x6, 514(x13)
+    .word 0x40628533  # sub x10, x5, x6
+    .word 0x01055293  # srli x5, x10, 16
+    .word 0x0082f5b3  # and x11, x5, x8
+    .word 0x00b502b3  # add x5, x10, x11
+    .word 0x00569123  # sh x5, 2(x13)
+    .word 0x0046d283  # lhu x5, 4(x13)
+    .word 0x2046d303  # lhu x6, 516(x13)
+    .word 0x40628533  # sub x10, x5, x6
+    .word 0x01055293  # srli x5, x10, 16
+    .word 0x0082f5b3  # and x11, x5, x8
+    .word 0x00b502b3  # add x5, x10, x11
+    .word 0x00569223  # sh x5, 4(x13)
+    .word 0x0066d283  # lhu x5, 6(x13)
+    .word 0x2066d303  # lhu x6, 518(x13)
+    .word 0x40628533  # sub x10, x5, x6
+    .word 0x01055293  # srli x5, x10, 16
+    .word 0x0082f5b3  # and x11, x5, x8
+    .word 0x00b502b3  # add x5, x10, x11
+    .word 0x00569323  # sh x5, 6(x13)
     .word 0x00148493  # addi x9, x9, 1
-    .word 0x00149613  # slli x12, x9, 1
-    .word 0x00260633  # add x12, x12, x2
-    .word 0x1004b293  # sltiu x5, x9, 256
-    .word 0xfc029ae3  # bne x5, x0, -44
+    .word 0x0404b293  # sltiu x5, x9, 64
+    .word 0xf6029ee3  # bne x5, x0, -132
     .word 0xfff48493  # addi x9, x9, -1
-    .word 0x00149613  # slli x12, x9, 1
-    .word 0x00260633  # add x12, x12, x2
     # the result
     .word 0x00000513  # addi x10, x0, 0
     # parameter 0: the array, back

@@ -6,7 +6,7 @@
 #define FACT_xtea_decrypt_H
 #include <stdbool.h>
 #include <stdint.h>
-#define xtea_decrypt_STACK_BYTES 48
+#define xtea_decrypt_STACK_BYTES 64
 #ifdef __cplusplus
 extern "C" {
 #endif

@@ -1,4 +1,4 @@
-# blake2s_block: made by factc 1.0.0 function; 549 words, 288 bytes of stack, profile 1
+# blake2s_block: made by factc 1.0.0 function; 590 words, 352 bytes of stack, profile 1
     .option push
     .option norvc
     .option norelax
@@ -40,8 +40,8 @@ blake2s_block:
     # arguments that are needed behind the body
     .word 0x02a12e23  # sw x10, 60(x2)
     # the frame's base
-    .word 0xf2010113  # addi x2, x2, -224
-    .cfi_def_cfa 2, 288
+    .word 0xee010113  # addi x2, x2, -288
+    .cfi_def_cfa 2, 352
     # parameter 0: an array
     .word 0x00050293  # addi x5, x10, 0
     .word 0x00010313  # addi x6, x2, 0
@@ -74,7 +74,59 @@ blake2s_block:
     .word 0x00000413  # addi x8, x0, 0
     .word 0x00000493  # addi x9, x0, 0
     .word 0x00000c93  # addi x25, x0, 0
-    .word 0x00000d93  # addi x27, x0, 0
+    .word 0x6df98db7  # lui x27, 0x6df98
+    .word 0x4aed8d93  # addi x27, x27, 1198
+    .word 0x357b22b7  # lui x5, 0x357b2
+    .word 0x0c128293  # addi x5, x5, 193
+    .word 0x0a512e23  # sw x5, 188(x2)
+    .word 0xdf2512b7  # lui x5, 0xdf251
+    .word 0xc8b28293  # addi x5, x5, -885
+    .word 0x0c512023  # sw x5, 192(x2)
+    .word 0x491762b7  # lui x5, 0x49176
+    .word 0x3ea28293  # addi x5, x5, 1002
+    .word 0x0c512223  # sw x5, 196(x2)
+    .word 0xebcd12b7  # lui x5, 0xebcd1
+    .word 0x39728293  # addi x5, x5, 919
+    .word 0x0c512423  # sw x5, 200(x2)
+    .word 0x8f04a2b7  # lui x5, 0x8f04a
+    .word 0x56228293  # addi x5, x5, 1378
+    .word 0x0c512623  # sw x5, 204(x2)
+    .word 0xfa4272b7  # lui x5, 0xfa427
+    .word 0x50928293  # addi x5, x5, 1289
+    .word 0x0c512823  # sw x5, 208(x2)
+    .word 0xd386d2b7  # lui x5, 0xd386d
+    .word 0xb1e28293  # addi x5, x5, -1250
+    .word 0x0c512a23  # sw x5, 212(x2)
+    .word 0x38b0a2b7  # lui x5, 0x38b0a
+    .word 0x6c228293  # addi x5, x5, 1730
+    .word 0x0c512c23  # sw x5, 216(x2)
+    .word 0x91ef52b7  # lui x5, 0x91ef5
+    .word 0x7d428293  # addi x5, x5, 2004
+    .word 0x0c512e23  # sw x5, 220(x2)
+    .word 0xa4def2b7  # lui x5, 0xa4def
+    .word 0x15c28293  # addi x5, x5, 348
+    .word 0x0e512023  # sw x5, 224(x2)
+    .word 0xb82932b7  # lui x5, 0xb8293
+    .word 0x67028293  # addi x5, x5, 1648
+    .word 0x0e512223  # sw x5, 228(x2)
+    .word 0x931ce2b7  # lui x5, 0x931ce
+    .word 0x7bd28293  # addi x5, x5, 1981
+    .word 0x0e512423  # sw x5, 232(x2)
+    .word 0xa26852b7  # lui x5, 0xa2685
+    .word 0xf0528293  # addi x5, x5, -251
+    .word 0x0e512623  # sw x5, 236(x2)
+    .word 0x803ba2b7  # lui x5, 0x803ba
+    .word 0xef628293  # addi x5, x5, -266
+    .word 0x0e512823  # sw x5, 240(x2)
+    .word 0x5a4182b7  # lui x5, 0x5a418
+    .word 0xd2c28293  # addi x5, x5, -724
+    .word 0x0e512a23  # sw x5, 244(x2)
+    .word 0x516752b7  # lui x5, 0x51675
+    .word 0x82a28293  # addi x5, x5, -2006
+    .word 0x0e512c23  # sw x5, 248(x2)
+    .word 0x0dc3f2b7  # lui x5, 0x0dc3f
+    .word 0x9bf28293  # addi x5, x5, -1601
+    .word 0x0e512e23  # sw x5, 252(x2)
     .word 0x06012623  # sw x0, 108(x2)
     .word 0x06012823  # sw x0, 112(x2)
     .word 0x06012a23  # sw x0, 116(x2)
@@ -91,17 +143,17 @@ blake2s_block:
     .word 0x0a012023  # sw x0, 160(x2)
     .word 0x0a012223  # sw x0, 164(x2)
     .word 0x0a012423  # sw x0, 168(x2)
-    .word 0x0a012e23  # sw x0, 188(x2)
+    .word 0x10012223  # sw x0, 260(x2)
     .word 0x01000293  # addi x5, x0, 16
-    .word 0x0c512023  # sw x5, 192(x2)
-    .word 0x0bc12303  # lw x6, 188(x2)
-    .word 0x0c012283  # lw x5, 192(x2)
+    .word 0x10512423  # sw x5, 264(x2)
+    .word 0x10412303  # lw x6, 260(x2)
+    .word 0x10812283  # lw x5, 264(x2)
     .word 0x005332b3  # sltu x5, x6, x5
     .word 0x00029463  # bne x5, x0, 8
     .word 0x0640006f  # jal x0, 100
     .word 0x0a612623  # sw x6, 172(x2)
     .word 0x00130313  # addi x6, x6, 1
-    .word 0x0a612e23  # sw x6, 188(x2)
+    .word 0x10612223  # sw x6, 260(x2)
     .word 0x0ac12283  # lw x5, 172(x2)
     .word 0x00229c93  # slli x25, x5, 2
     .word 0x002c82b3  # add x5, x25, x2
@@ -159,93 +211,85 @@ blake2s_block:
     .word 0x210c8c93  # addi x25, x25, 528
     .word 0xfedccd37  # lui x26, 0xfedcc
     .word 0xa98d0d13  # addi x26, x26, -1384
-    .word 0x0a012e23  # sw x0, 188(x2)
+    .word 0x10012223  # sw x0, 260(x2)
     .word 0x00200293  # addi x5, x0, 2
-    .word 0x0c512023  # sw x5, 192(x2)
-    .word 0x0bc12303  # lw x6, 188(x2)
-    .word 0x0c012283  # lw x5, 192(x2)
+    .word 0x10512423  # sw x5, 264(x2)
+    .word 0x10412303  # lw x6, 260(x2)
+    .word 0x10812283  # lw x5, 264(x2)
     .word 0x005332b3  # sltu x5, x6, x5
     .word 0x00029463  # bne x5, x0, 8
-    .word 0x54c0006f  # jal x0, 1356
+    .word 0x5200006f  # jal x0, 1312
     .word 0x0a612823  # sw x6, 176(x2)
     .word 0x00130313  # addi x6, x6, 1
-    .word 0x0a612e23  # sw x6, 188(x2)
-    .word 0x0c012223  # sw x0, 196(x2)
+    .word 0x10612223  # sw x6, 260(x2)
+    .word 0x10012623  # sw x0, 268(x2)
     .word 0x00200293  # addi x5, x0, 2
-    .word 0x0c512423  # sw x5, 200(x2)
-    .word 0x0c412303  # lw x6, 196(x2)
-    .word 0x0c812283  # lw x5, 200(x2)
+    .word 0x10512823  # sw x5, 272(x2)
+    .word 0x10c12303  # lw x6, 268(x2)
+    .word 0x11012283  # lw x5, 272(x2)
     .word 0x005332b3  # sltu x5, x6, x5
     .word 0x00029463  # bne x5, x0, 8
-    .word 0x51c0006f  # jal x0, 1308
+    .word 0x4f00006f  # jal x0, 1264
     .word 0x0a612a23  # sw x6, 180(x2)
     .word 0x00130313  # addi x6, x6, 1
-    .word 0x0c612223  # sw x6, 196(x2)
-    .word 0x00000d93  # addi x27, x0, 0
+    .word 0x10612623  # sw x6, 268(x2)
+    .word 0x10012a23  # sw x0, 276(x2)
+    .word 0x00300293  # addi x5, x0, 3
+    .word 0x10512c23  # sw x5, 280(x2)
+    .word 0x11412303  # lw x6, 276(x2)
+    .word 0x11812283  # lw x5, 280(x2)
+    .word 0x005332b3  # sltu x5, x6, x5
+    .word 0x00029463  # bne x5, x0, 8
+    .word 0x4c00006f  # jal x0, 1216
+    .word 0x0a612c23  # sw x6, 184(x2)
+    .word 0x00130313  # addi x6, x6, 1
+    .word 0x10612a23  # sw x6, 276(x2)
     .word 0x00a00313  # addi x6, x0, 10
-    .word 0x4e6c7863  # bgeu x24, x6, 1264
+    .word 0x4a6c7463  # bgeu x24, x6, 1192
     .word 0x00100313  # addi x6, x0, 1
-    .word 0x006c1c63  # bne x24, x6, 24
-    .word 0x6df98cb7  # lui x25, 0x6df98
-    .word 0x4aec8c93  # addi x25, x25, 1198
-    .word 0x357b2d37  # lui x26, 0x357b2
-    .word 0x0c1d0d13  # addi x26, x26, 193
-    .word 0x0e00006f  # jal x0, 224
+    .word 0x006c1863  # bne x24, x6, 16
+    .word 0x000d8c93  # addi x25, x27, 0
+    .word 0x0bc12d03  # lw x26, 188(x2)
+    .word 0x0a00006f  # jal x0, 160
     .word 0x00200313  # addi x6, x0, 2
-    .word 0x006c1c63  # bne x24, x6, 24
-    .word 0xdf251cb7  # lui x25, 0xdf251
-    .word 0xc8bc8c93  # addi x25, x25, -885
-    .word 0x49176d37  # lui x26, 0x49176
-    .word 0x3ead0d13  # addi x26, x26, 1002
-    .word 0x0c40006f  # jal x0, 196
-    .word 0x00300313  # addi x6, x0, 3
-    .word 0x006c1c63  # bne x24, x6, 24
-    .word 0xebcd1cb7  # lui x25, 0xebcd1
-    .word 0x397c8c93  # addi x25, x25, 919
-    .word 0x8f04ad37  # lui x26, 0x8f04a
-    .word 0x562d0d13  # addi x26, x26, 1378
-    .word 0x0a80006f  # jal x0, 168
-    .word 0x00400313  # addi x6, x0, 4
-    .word 0x006c1c63  # bne x24, x6, 24
-    .word 0xfa427cb7  # lui x25, 0xfa427
-    .word 0x509c8c93  # addi x25, x25, 1289
-    .word 0xd386dd37  # lui x26, 0xd386d
-    .word 0xb1ed0d13  # addi x26, x26, -1250
+    .word 0x006c1863  # bne x24, x6, 16
+    .word 0x0c012c83  # lw x25, 192(x2)
+    .word 0x0c412d03  # lw x26, 196(x2)
     .word 0x08c0006f  # jal x0, 140
+    .word 0x00300313  # addi x6, x0, 3
+    .word 0x006c1863  # bne x24, x6, 16
+    .word 0x0c812c83  # lw x25, 200(x2)
+    .word 0x0cc12d03  # lw x26, 204(x2)
+    .word 0x0780006f  # jal x0, 120
+    .word 0x00400313  # addi x6, x0, 4
+    .word 0x006c1863  # bne x24, x6, 16
+    .word 0x0d012c83  # lw x25, 208(x2)
+    .word 0x0d412d03  # lw x26, 212(x2)
+    .word 0x0640006f  # jal x0, 100
     .word 0x00500313  # addi x6, x0, 5
-    .word 0x006c1c63  # bne x24, x6, 24
-    .word 0x38b0acb7  # lui x25, 0x38b0a
-    .word 0x6c2c8c93  # addi x25, x25, 1730
-    .word 0x91ef5d37  # lui x26, 0x91ef5
-    .word 0x7d4d0d13  # addi x26, x26, 2004
-    .word 0x0700006f  # jal x0, 112
+    .word 0x006c1863  # bne x24, x6, 16
+    .word 0x0d812c83  # lw x25, 216(x2)
+    .word 0x0dc12d03  # lw x26, 220(x2)
+    .word 0x0500006f  # jal x0, 80
     .word 0x00600313  # addi x6, x0, 6
-    .word 0x006c1c63  # bne x24, x6, 24
-    .word 0xa4defcb7  # lui x25, 0xa4def
-    .word 0x15cc8c93  # addi x25, x25, 348
-    .word 0xb8293d37  # lui x26, 0xb8293
-    .word 0x670d0d13  # addi x26, x26, 1648
-    .word 0x0540006f  # jal x0, 84
+    .word 0x006c1863  # bne x24, x6, 16
+    .word 0x0e012c83  # lw x25, 224(x2)
+    .word 0x0e412d03  # lw x26, 228(x2)
+    .word 0x03c0006f  # jal x0, 60
     .word 0x00700313  # addi x6, x0, 7
-    .word 0x006c1c63  # bne x24, x6, 24
-    .word 0x931cecb7  # lui x25, 0x931ce
-    .word 0x7bdc8c93  # addi x25, x25, 1981
-    .word 0xa2685d37  # lui x26, 0xa2685
-    .word 0xf05d0d13  # addi x26, x26, -251
-    .word 0x0380006f  # jal x0, 56
+    .word 0x006c1863  # bne x24, x6, 16
+    .word 0x0e812c83  # lw x25, 232(x2)
+    .word 0x0ec12d03  # lw x26, 236(x2)
+    .word 0x0280006f  # jal x0, 40
     .word 0x00800313  # addi x6, x0, 8
-    .word 0x006c1c63  # bne x24, x6, 24
-    .word 0x803bacb7  # lui x25, 0x803ba
-    .word 0xef6c8c93  # addi x25, x25, -266
-    .word 0x5a418d37  # lui x26, 0x5a418
-    .word 0xd2cd0d13  # addi x26, x26, -724
-    .word 0x01c0006f  # jal x0, 28
+    .word 0x006c1863  # bne x24, x6, 16
+    .word 0x0f012c83  # lw x25, 240(x2)
+    .word 0x0f412d03  # lw x26, 244(x2)
+    .word 0x0140006f  # jal x0, 20
     .word 0x00900313  # addi x6, x0, 9
-    .word 0x006c1a63  # bne x24, x6, 20
-    .word 0x51675cb7  # lui x25, 0x51675
-    .word 0x82ac8c93  # addi x25, x25, -2006
-    .word 0x0dc3fd37  # lui x26, 0x0dc3f
-    .word 0x9bfd0d13  # addi x26, x26, -1601
+    .word 0x006c1663  # bne x24, x6, 12
+    .word 0x0f812c83  # lw x25, 248(x2)
+    .word 0x0fc12d03  # lw x26, 252(x2)
     .word 0x00c402b3  # add x5, x8, x12
     .word 0x00fcf313  # andi x6, x25, 15
     .word 0x00231313  # slli x6, x6, 2
@@ -499,12 +543,9 @@ blake2s_block:
     .word 0x0072d613  # srli x12, x5, 7
     .word 0x00cf0633  # add x12, x30, x12
     .word 0x001c0c13  # addi x24, x24, 1
-    .word 0x001d8d93  # addi x27, x27, 1
-    .word 0x003db293  # sltiu x5, x27, 3
-    .word 0xb00292e3  # bne x5, x0, -1276
-    .word 0xfffd8d93  # addi x27, x27, -1
-    .word 0xad9ff06f  # jal x0, -1320
-    .word 0xaa9ff06f  # jal x0, -1368
+    .word 0xb35ff06f  # jal x0, -1228
+    .word 0xb05ff06f  # jal x0, -1276
+    .word 0xad5ff06f  # jal x0, -1324
     .word 0x00012283  # lw x5, 0(x2)
     .word 0x0082c2b3  # xor x5, x5, x8
     .word 0x0102c2b3  # xor x5, x5, x16
@@ -540,7 +581,7 @@ blake2s_block:
     # the result
     .word 0x00000513  # addi x10, x0, 0
     # parameter 0: the array, back
-    .word 0x11c12283  # lw x5, 284(x2)
+    .word 0x15c12283  # lw x5, 348(x2)
     .word 0x00010313  # addi x6, x2, 0
     .word 0x02028393  # addi x7, x5, 32
     .word 0x00032e03  # lw x28, 0(x6)
@@ -549,7 +590,7 @@ blake2s_block:
     .word 0x00430313  # addi x6, x6, 4
     .word 0xfe7298e3  # bne x5, x7, -16
     # above the frame
-    .word 0x0e010293  # addi x5, x2, 224
+    .word 0x12010293  # addi x5, x2, 288
     # the caller's registers
     .word 0x0002a403  # lw x8, 0(x5)
     .cfi_restore 8
