@@ -2,17 +2,19 @@
 use Rattle.std.proofs.Common.{◌≡◌, ℕ, ◌+◌, Bool, arith}
 use Rattle.optimisation.specs.Below.{StraightBlock}
 use Rattle.optimisation.specs.constants.private.Choice.{Chosen}
+use Rattle.optimisation.specs.declared.constants.choice.Counts.{Counts}
 use Rattle.optimisation.specs.constants.private.Choice.{closed, counted, grown, settled}
 use Rattle.optimisation.specs.iteration_groups.private.Choice.{is_groupable}
 
 -- a count of nodes serves as they do
 pub grown_by : (so_far : Chosen) (count n : ℕ) → count ≡ counted n → grown so_far count ≡ grown so_far n
 grown_by so_far count n is =
-    let same : counted (so_far.nodes + count) ≡ counted (so_far.nodes + n) = omega arith in cc
+    let same : counted (so_far.counts.nodes + count) ≡ counted (so_far.counts.nodes + n) = omega arith in cc
 
 -- so does the count of what a loop has beside its body
-pub closed_by : (before room x count own : ℕ) (body : StraightBlock) (groupable : Bool) (inner same : Chosen)
+pub closed_by : (before : Counts) (x count own : ℕ) (body : StraightBlock) (groupable : Bool) (inner same : Chosen)
     → count ≡ counted own → inner ≡ same → groupable ≡ is_groupable inner.arrays x body
-    → settled before room x count groupable inner ≡ closed before room x own body same
-closed_by before room x count own body groupable inner same is alike may =
-    let nodes : counted (before + count + inner.nodes) ≡ counted (before + own + inner.nodes) = omega arith in cc
+    → settled before x count groupable inner ≡ closed before x own body same
+closed_by before x count own body groupable inner same is alike may =
+    let nodes : counted (before.nodes + count + inner.counts.nodes)
+    ≡ counted (before.nodes + own + inner.counts.nodes) = omega arith in cc

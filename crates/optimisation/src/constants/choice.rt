@@ -3,7 +3,7 @@
 ghost use Rattle.std.specs.Prelude.{◌≡◌, slice_index, slice_set, IfOk};
 ghost use Rattle.optimisation.specs.Below.{straight_block, straight_tree};
 ghost use Rattle.optimisation.specs.constants.private.Choice.{begun, choice_of, chosen, chosen_all, grown};
-ghost use Rattle.optimisation.specs.constants.private.Choice.{is_kept, most_nodes_of, settled};
+ghost use Rattle.optimisation.specs.constants.private.Choice.{is_kept, most_nodes_of, opened, settled};
 
 use crate::element_words::SplitArrays;
 use crate::iteration_groups::choice::{LEAST_ITERATIONS, is_groupable};
@@ -66,14 +66,22 @@ fn refuse(unroll_limits: &mut Vec<u32>, counter: u32)
     }
 }
 
-/// How many iterations the loop of each counter may become, at the counter's number, how many nodes there is still room
-/// for, and how many there are so far; and which arrays might become words.
+/// How many nodes there is still room for, how many there are so far, and whether a loop is among them that stays to be
+/// grouped.
+#[derive(Clone, Copy)]
+struct Counts {
+    room: u64,
+    nodes: u64,
+    keeps: bool,
+}
+
+/// How many iterations the loop of each counter may become, at the counter's number; the counts of nodes; and which
+/// arrays might become words.
 #[derive(Drop)]
 pub struct Choice {
     pub unroll_limits: Vec<u32>,
     arrays: SplitArrays,
-    room: u64,
-    nodes: u64,
+    counts: Counts,
 }
 
 impl Choice {
@@ -83,11 +91,15 @@ impl Choice {
     {
         let body = straight.body();
         let parameters = straight.parameters().len();
+        let room = (u64::from(straight.nodes()) * ROOM_FACTOR).min(MOST_ROOM);
         let mut choice = Choice {
             unroll_limits: straight.iterations().to_vec(alloc)?,
             arrays: SplitArrays::candidates(alloc, parameters, straight.declared())?,
-            room: (u64::from(straight.nodes()) * ROOM_FACTOR).min(MOST_ROOM),
-            nodes: 0,
+            counts: Counts {
+                room,
+                nodes: 0,
+                keeps: false,
+            },
         };
         choice.choose_all(body);
         Ok(choice)
@@ -97,28 +109,44 @@ impl Choice {
     fn grow(&mut self, nodes: u64)
         ensures { choice_of self.new ≡ grown (choice_of self.old) nodes }
     {
-        self.nodes = self.nodes.saturating_add(nodes);
+        self.counts.nodes = self.counts.nodes.saturating_add(nodes);
     }
 
-    /// Behind so many nodes, where there was so much room, a loop of so many nodes without its body, for which all is
-    /// chosen: it becomes its iterations where each is short and there is room for all, but not where it is kept to be
+    /// Behind what was counted before, a loop of so many nodes without its body, for which all is chosen: it becomes
+    /// its iterations where each is short and there is room for all, but not where it, or a loop in it, stays to be
     /// grouped.
-    fn settle(&mut self, before: u64, room: u64, counter: u32, own: u64, groupable: bool)
-        ensures { choice_of self.new ≡ settled before room counter own groupable (choice_of self.old) }
+    fn settle(&mut self, before: Counts, counter: u32, own: u64, groupable: bool)
+        ensures { choice_of self.new ≡ settled before counter own groupable (choice_of self.old) }
     {
         let iterations = unroll_limit_of(self.unroll_limits.as_slice(), counter);
-        let cost = self
-            .nodes
+        let Counts { room, nodes, keeps } = self.counts;
+        let cost = nodes
             .saturating_add(COUNTER_NODES)
             .saturating_mul(u64::from(iterations));
-        let unrolls = iterations >= 1 && !is_kept(groupable, iterations, cost);
-        if unrolls && self.nodes <= most_nodes_of(iterations) && cost <= room {
-            self.room = room - cost;
-            self.nodes = before.saturating_add(cost);
+        let keeps = keeps || is_kept(groupable, iterations, cost);
+        let unrolls = iterations >= 1 && !keeps;
+        if unrolls && nodes <= most_nodes_of(iterations) && cost <= before.room {
+            self.counts = Counts {
+                room: before.room - cost,
+                nodes: before.nodes.saturating_add(cost),
+                keeps: before.keeps,
+            };
         } else {
             refuse(&mut self.unroll_limits, counter);
-            self.nodes = before.saturating_add(own).saturating_add(self.nodes);
+            self.counts = Counts {
+                room,
+                nodes: before.nodes.saturating_add(own).saturating_add(nodes),
+                keeps: before.keeps || keeps,
+            };
         }
+    }
+
+    /// The body of a loop begins.
+    fn open(&mut self)
+        ensures { choice_of self.new ≡ opened (choice_of self.old) }
+    {
+        self.counts.nodes = 0;
+        self.counts.keeps = false;
     }
 
     /// Chooses among the loops in a statement.
@@ -143,13 +171,12 @@ impl Choice {
                 self.choose_all(otherwise);
             }
             StraightStatement::Repeat(counter, low, high, body) => {
-                let before = self.nodes;
-                let room = self.room;
-                self.nodes = 0;
+                let before = self.counts;
+                self.open();
                 self.choose_all(body);
                 let own = nodes_in(low).saturating_add(nodes_in(high));
                 let groupable = is_groupable(&self.arrays, *counter, body);
-                self.settle(before, room, *counter, own.saturating_add(1), groupable);
+                self.settle(before, *counter, own.saturating_add(1), groupable);
             }
         }
     }

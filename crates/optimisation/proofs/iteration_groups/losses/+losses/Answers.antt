@@ -1,4 +1,4 @@
-use Rattle.std.proofs.Common.{rules, refl, ap, ◌∙◌, sym, arith}
+use Rattle.std.proofs.Common.{rules, refl, ap, arith}
 use Rattle.branch_removal.proofs.StatementTrees.{tree_of_branch, tree_of_loop, accepted_smaller, otherwise_smaller}
 use Rattle.branch_removal.proofs.StatementTrees.{body_smaller, item_here, smaller_here}
 use Rattle.optimisation.specs.iteration_groups.private.Losses.{lost_by}

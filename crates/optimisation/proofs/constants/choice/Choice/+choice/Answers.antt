@@ -1,7 +1,7 @@
-use Rattle.std.proofs.Common.{◌≡◌, ◌+◌, List, rules, refl, ◌∙◌, sym, subst, arith}
+use Rattle.std.proofs.Common.{◌≡◌, ◌+◌, List, rules, refl, ap, ◌∙◌, sym, subst, arith}
 use Rattle.branch_removal.specs.declared.straight.StraightStatement.{StraightStatement}
 use Rattle.optimisation.specs.Below.{straight_block, term_tree}
-use Rattle.optimisation.specs.constants.private.Choice.{term_size, choice_of}
+use Rattle.optimisation.specs.constants.private.Choice.{term_size, choice_of, chosen_all, Chosen}
 use Rattle.optimisation.specs.iteration_groups.private.Choice.{is_groupable}
 use Rattle.optimisation.proofs.constants_lemmas.ChoiceLemmas.{closed_by, grown_by}
 use Rattle.branch_removal.proofs.StatementTrees.{tree_of_branch, tree_of_loop, accepted_smaller, otherwise_smaller}
@@ -47,7 +47,7 @@ choose-returns-in-Repeat t c =
     ≡ is_groupable c.choose_all-in-Repeat.new.self.arrays.arrays.items c.in-Repeat.counter (straight_block items))
     same c.is_groupable-groupable.ensures in
     rw (c.settle.ensures, tree_of_loop c.in-Repeat.body c.in-Repeat.is c.deref-in-Repeat.ensures.value)
-    (closed_by c.args.self.now.nodes c.args.self.now.room c.in-Repeat.counter _
+    (closed_by c.args.self.now.counts c.in-Repeat.counter _
     (1 + term_size (term_tree c.in-Repeat.low) + term_size (term_tree c.in-Repeat.high))
     (straight_block c.deref-in-Repeat.result.now) _ _ _
     (omega (
@@ -56,7 +56,8 @@ choose-returns-in-Repeat t c =
       c.saturating_add-own.ensures,
       c.nodes_in-in-Repeat.ensures,
       c.nodes_in-in-Repeat-2.ensures,
-    )) c.choose_all-in-Repeat.ensures may)
+    )) (c.choose_all-in-Repeat.ensures ∙ ap (λ (so_far : Chosen). chosen_all so_far
+    (straight_block c.deref-in-Repeat.result.now)) c.open.ensures) may)
 
 pub choose_all-choose-requires : goal.choose_all-choose-requires
 choose_all-choose-requires t c =
