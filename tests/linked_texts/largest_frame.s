@@ -15,7 +15,7 @@ largest_frame:
     lui x5, 16
     addi x5, x5, 0
     sub x5, x2, x5
-1:  addi x2, x2, -64
+1:  addi x2, x2, -32
     sw x0, 0(x2)
     sw x0, 4(x2)
     sw x0, 8(x2)
@@ -24,14 +24,6 @@ largest_frame:
     sw x0, 20(x2)
     sw x0, 24(x2)
     sw x0, 28(x2)
-    sw x0, 32(x2)
-    sw x0, 36(x2)
-    sw x0, 40(x2)
-    sw x0, 44(x2)
-    sw x0, 48(x2)
-    sw x0, 52(x2)
-    sw x0, 56(x2)
-    sw x0, 60(x2)
     bne x2, x5, 1b
     # argument 0 to 0
     sw x10, 0(x2)
@@ -73,7 +65,7 @@ largest_frame:
     addi x5, x5, 0
     add x5, x5, x2
     addi x5, x5, 16
-    # four words, and runs of 16
+    # four words, and runs of eight
     sw x0, 0(x2)
     sw x0, 4(x2)
     sw x0, 8(x2)
@@ -87,15 +79,7 @@ largest_frame:
     sw x0, 20(x2)
     sw x0, 24(x2)
     sw x0, 28(x2)
-    sw x0, 32(x2)
-    sw x0, 36(x2)
-    sw x0, 40(x2)
-    sw x0, 44(x2)
-    sw x0, 48(x2)
-    sw x0, 52(x2)
-    sw x0, 56(x2)
-    sw x0, 60(x2)
-    addi x2, x2, 64
+    addi x2, x2, 32
     bne x2, x5, 1b
     addi x5, x0, 0
     addi x6, x0, 0

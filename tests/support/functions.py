@@ -7,10 +7,11 @@ WORD = re.compile(r"^    \.word 0x([0-9a-f]{8})  # (.*)$")
 HEAD = re.compile(r"^# (\w+): made by factc [\d.]+ function; (\d+) words, (\d+) bytes of stack, profile ([12])$")
 ARRAY = re.compile(r"^parameter (\d+): an array$")
 SIZES = {"bool": 1, "uint8": 1, "uint16": 2, "uint32": 4}
-# What a loop does at once in the code around a body: the words that a run zeroes, how many words or smaller elements a round copies,
-# from how many elements on there is a loop, whether arrays may go by words, and whether a near end of a loop takes one step.
-Pace = collections.namedtuple("Pace", "run words smaller loop by_words near_end")
-FAST, SMALL = Pace(16, 8, 4, 16, True, False), Pace(4, 1, 1, 4, False, True)
+# What a loop does at once in the code around a body: the words that a run zeroes, by the type of elements how many a round copies and
+# from how many on there is a loop, whether arrays may go by words, and whether a near end of a loop takes one step.
+Pace = collections.namedtuple("Pace", "run round loop by_words near_end")
+FAST = Pace(8, {"bool": 4, "uint8": 1, "uint16": 1, "uint32": 4}, {"bool": 16, "uint8": 4, "uint16": 4, "uint32": 16}, True, False)
+SMALL = Pace(4, dict.fromkeys(SIZES, 1), dict.fromkeys(SIZES, 4), False, True)
 
 
 class Section:
@@ -144,9 +145,9 @@ def zeroed(room, pace):
 
 def copied(kind, length, each, pace):
     """Few elements are copied by straight code, more by a loop over some at a time, with those that are left behind it."""
-    if length < pace.loop:
+    if length < pace.loop[kind]:
         return each * length
-    size = pace.words if kind == "uint32" else pace.smaller
+    size = pace.round[kind]
     rounds = length // size
     return loop_end(SIZES[kind] * size * rounds, pace) + (size * each + 3) * rounds + each * (length % size)
 

@@ -55,7 +55,7 @@ def only_the_frame_is_wiped(function):
 def the_wipe_stops_a_run_early(function):
     sections = function.copies()
     section = titled(sections, "all the room, wiped upward")
-    section.words = [immediate_word(NUMBER, -64, 5, 0, 5), *section.words, immediate_word(NUMBER, 64, 2, 0, 2)]
+    section.words = [immediate_word(NUMBER, -32, 5, 0, 5), *section.words, immediate_word(NUMBER, 32, 2, 0, 2)]
     return sections
 
 
@@ -78,11 +78,14 @@ def a_bool_is_its_lowest_bit(function):
 
 
 def bytes_are_copied_by_words(function):
+    """The loop over seven bytes, where their pointer is no multiple of 4, copies seven words."""
     sections = function.copies()
     section = titled(sections, "parameter 7: an array")
-    for number in range(7):
-        exchange(section, immediate_word(LOAD, number, 5, 4, 28), immediate_word(LOAD, 4 * number, 5, 2, 28))
-        exchange(section, store_word(number, 28, 6, 0), store_word(4 * number, 28, 6, 2))
+    exchange(section, immediate_word(NUMBER, 7, 0, 0, 7), immediate_word(NUMBER, 28, 0, 0, 7))
+    exchange(section, immediate_word(LOAD, 0, 5, 4, 28), immediate_word(LOAD, 0, 5, 2, 28))
+    exchange(section, store_word(0, 28, 6, 0), store_word(0, 28, 6, 2))
+    for register in (5, 6):
+        exchange(section, immediate_word(NUMBER, 1, register, 0, register), immediate_word(NUMBER, 4, register, 0, register))
     return sections
 
 

@@ -66,14 +66,14 @@ word_even Boolean a even = omega arith
 word_even kind a even = omega arith
 
 passed_few : (pace : Pace) (count : ℕ) → (passed_count pace Uint32 count < 16) × (passed_count pace Uint32 count ≤ count)
-passed_few pace count = by (nat_lt count (few_elements pace)) refl
+passed_few pace count = by (nat_lt count (few_elements pace Uint32)) refl
   where
-    by : (b : Bool) → nat_lt count (few_elements pace) ≡ b
+    by : (b : Bool) → nat_lt count (few_elements pace Uint32) ≡ b
         → ((if b then count else count % per_round pace Uint32) < 16)
         × ((if b then count else count % per_round pace Uint32) ≤ count)
     by true few =
-        let below = ltb-true count (few_elements pace) few in
-        (omega (arith, few_enough pace), omega arith)
+        let below = ltb-true count (few_elements pace Uint32) few in
+        (omega (arith, few_enough pace Uint32), omega arith)
     by false many =
         let left = left_few pace Uint32 count in
         let all = rounds_split pace Uint32 count in

@@ -77,7 +77,7 @@ round_some Fast kind = omega arith
 round_some Small Boolean = omega arith
 round_some Small kind = omega arith
 
-pub round_few : (pace : Pace) (kind : Kind) → per_round pace kind ≤ 8
+pub round_few : (pace : Pace) (kind : Kind) → per_round pace kind ≤ 4
 round_few Fast Boolean = omega arith
 round_few Fast kind = omega arith
 round_few Small Boolean = omega arith
@@ -92,7 +92,7 @@ rounds_split Small Boolean k = omega arith
 rounds_split Small kind k = omega arith
 
 -- and few are left
-pub left_few : (pace : Pace) (kind : Kind) (k : ℕ) → k % per_round pace kind < 8
+pub left_few : (pace : Pace) (kind : Kind) (k : ℕ) → k % per_round pace kind < 4
 left_few Fast Boolean k = omega arith
 left_few Fast kind k = omega arith
 left_few Small Boolean k = omega arith
@@ -106,15 +106,17 @@ round_inside Small Boolean i k few = omega arith
 round_inside Small kind i k few = omega arith
 
 -- where there are not few elements, some go by rounds
-pub rounds_some : (pace : Pace) (kind : Kind) (k : ℕ) → few_elements pace ≤ k → 0 < k / per_round pace kind
+pub rounds_some : (pace : Pace) (kind : Kind) (k : ℕ) → few_elements pace kind ≤ k → 0 < k / per_round pace kind
 rounds_some Fast Boolean k many = omega arith
 rounds_some Fast kind k many = omega arith
 rounds_some Small Boolean k many = omega arith
 rounds_some Small kind k many = omega arith
 
-pub few_enough : (pace : Pace) → few_elements pace ≤ 16
-few_enough Fast = omega arith
-few_enough Small = omega arith
+pub few_enough : (pace : Pace) (kind : Kind) → few_elements pace kind ≤ 16
+few_enough Fast Boolean = omega arith
+few_enough Fast kind = omega arith
+few_enough Small Boolean = omega arith
+few_enough Small kind = omega arith
 
 pub fewer_fit : (kind : Kind) (i k : ℕ) → i ≤ k → element_bytes kind * i ≤ element_bytes kind * k
 fewer_fit Boolean i k few = omega arith

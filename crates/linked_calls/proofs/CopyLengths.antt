@@ -56,14 +56,14 @@ rounds_short pace inward kind count =
 -- so many elements of any kind
 pub copied_short : (pace : Pace) (inward : Bool) (kind : Kind) (count : ℕ)
     → length (copied_code pace (element_code inward kind) kind count) ≤ 51
-copied_short pace inward kind count = by (nat_lt count (few_elements pace)) refl
+copied_short pace inward kind count = by (nat_lt count (few_elements pace kind)) refl
   where
-    by : (b : Bool) → nat_lt count (few_elements pace) ≡ b
+    by : (b : Bool) → nat_lt count (few_elements pace kind) ≡ b
         → length (if b then elements_code (element_code inward kind) (element_bytes kind) 0 count
         else rounds_code pace (element_code inward kind) kind count) ≤ 51
     by true few =
-        let below = ltb-true count (few_elements pace) few in
-        omega (arith, few_enough pace, elements_short inward kind (element_bytes kind) 0 count)
+        let below = ltb-true count (few_elements pace kind) few in
+        omega (arith, few_enough pace kind, elements_short inward kind (element_bytes kind) 0 count)
     by false many = rounds_short pace inward kind count
 
 rest_few : (kind : Kind) (count : ℕ) → count % per_word kind ≤ 3

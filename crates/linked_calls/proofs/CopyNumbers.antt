@@ -509,7 +509,7 @@ module _ (inward : Bool) (z : Setting) (numbers : Numbers) (can : CanCopy inward
         stop = ap (λ x. sum_of (n * (r * rounds)) x) begins.pointer ∙ omega arith;
       }
 
-      rounds_run : few_elements pace ≤ k
+      rounds_run : few_elements pace kind ≤ k
           → Runs z (rounds_steps pace element kind k) (rounds_code pace element kind k) (BeginsCopy inward numbers)
           (HasCopied inward numbers left)
       rounds_run many =
@@ -537,13 +537,13 @@ module _ (inward : Bool) (z : Setting) (numbers : Numbers) (can : CanCopy inward
 
       pub copy_runs : Runs z (copied_steps pace element kind k) (copied_code pace element kind k)
           (BeginsCopy inward numbers) (HasCopied inward numbers (passed_count pace kind k))
-      copy_runs = by (nat_lt k (few_elements pace)) refl
+      copy_runs = by (nat_lt k (few_elements pace kind)) refl
         where
-          by : (b : Bool) → nat_lt k (few_elements pace) ≡ b
+          by : (b : Bool) → nat_lt k (few_elements pace kind) ≡ b
               → Runs z (if b then length (elements_code element n 0 k) else rounds_steps pace element kind k)
               (if b then elements_code element n 0 k else rounds_code pace element kind k) (BeginsCopy inward numbers)
               (HasCopied inward numbers (if b then k else k % r))
           by true few =
-              let below = ltb-true k (few_elements pace) few in
-              straight_runs_on 0 (sym at_first) (omega (arith, few_enough pace))
-          by false many = rounds_run (ltb-false k (few_elements pace) many)
+              let below = ltb-true k (few_elements pace kind) few in
+              straight_runs_on 0 (sym at_first) (omega (arith, few_enough pace kind))
+          by false many = rounds_run (ltb-false k (few_elements pace kind) many)

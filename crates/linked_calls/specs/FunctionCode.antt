@@ -273,12 +273,12 @@ rounds_code pace code kind count =
 -- so many elements: by straight code if they are few
 abbrev pub copied_code : Pace → (ℕ → List Instr) → Kind → ℕ → List Instr
 copied_code pace code kind count =
-    if nat_lt count (few_elements pace) then elements_code code (element_bytes kind) 0 count
+    if nat_lt count (few_elements pace kind) then elements_code code (element_bytes kind) 0 count
     else rounds_code pace code kind count
 
 -- how many of them lie behind where x5 and x6 are then
 abbrev pub passed_count : Pace → Kind → ℕ → ℕ
-passed_count pace kind count = if nat_lt count (few_elements pace) then count else count % per_round pace kind
+passed_count pace kind count = if nat_lt count (few_elements pace kind) then count else count % per_round pace kind
 
 -- how many elements a word has
 abbrev pub per_word : Kind → ℕ

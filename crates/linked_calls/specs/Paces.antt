@@ -7,7 +7,7 @@ use Rattle.linked_calls.specs.declared.pace.Pace.TheVariants.{Fast, Small}
 -- the words that a run zeroes: those of whole blocks of 16 bytes, so that x2 stays a multiple of 16. A room is a whole
 -- number of short runs
 abbrev pub run_words : Pace → ℕ
-run_words Fast = 16
+run_words Fast = 8
 run_words Small = 4
 
 -- so many words of a frame, and no more, are zeroed one by one; where they are more, all of it is. At a small pace they
@@ -17,18 +17,25 @@ most_blanks Fast = 32
 most_blanks Small = 7
 
 -- fewer elements than these are copied by straight code, which has two instructions or three for each; a loop over one
--- element a round has six or seven
-abbrev pub few_elements : Pace → ℕ
-few_elements Fast = 16
-few_elements Small = 4
+-- element a round has six or seven. At a fast pace few bytes or halves go so: from four on they go by words, but for a
+-- pointer that is no multiple of 4
+abbrev pub few_elements : Pace → Kind → ℕ
+few_elements Fast Boolean = 16
+few_elements Fast Uint8 = 4
+few_elements Fast Uint16 = 4
+few_elements Fast Uint32 = 16
+few_elements Small Boolean = 4
+few_elements Small Uint8 = 4
+few_elements Small Uint16 = 4
+few_elements Small Uint32 = 4
 
--- how many elements a round of a loop copies: at a fast pace eight words, or four elements that are smaller, which
--- mostly go so only where their pointer is no multiple of 4
+-- how many elements a round of a loop copies: at a fast pace four words, or four bools, since those that are passed
+-- always go one by one; bytes and halves do so only where their pointer is no multiple of 4, and then one a round
 abbrev pub per_round : Pace → Kind → ℕ
 per_round Fast Boolean = 4
-per_round Fast Uint8 = 4
-per_round Fast Uint16 = 4
-per_round Fast Uint32 = 8
+per_round Fast Uint8 = 1
+per_round Fast Uint16 = 1
+per_round Fast Uint32 = 4
 per_round Small Boolean = 1
 per_round Small Uint8 = 1
 per_round Small Uint16 = 1

@@ -115,7 +115,7 @@ rounds_steps pace code kind count =
 
 abbrev pub copied_steps : Pace → (ℕ → List Instr) → Kind → ℕ → ℕ
 copied_steps pace code kind count =
-    if nat_lt count (few_elements pace) then length (elements_code code (element_bytes kind) 0 count)
+    if nat_lt count (few_elements pace kind) then length (elements_code code (element_bytes kind) 0 count)
     else rounds_steps pace code kind count
 
 abbrev pub by_words_steps : Pace → (Kind → ℕ → List Instr) → Kind → ℕ → ℕ

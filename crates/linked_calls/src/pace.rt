@@ -3,7 +3,7 @@
 /// What the code around a body is made for. What a call does is the same for each, but for how many steps it makes.
 #[derive(Clone, Copy, Debug, PartialEq, Eq)]
 pub enum Pace {
-    /// Few steps: loops zero 16 words a run, and copy eight words or four smaller elements a round.
+    /// Few steps: loops zero eight words a run, and copy four words or bools a round, but one byte or half.
     Fast,
     /// Few words: loops zero four words a run, and copy one element a round.
     Small,

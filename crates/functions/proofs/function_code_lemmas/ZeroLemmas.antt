@@ -3,6 +3,6 @@ use Rattle.std.specs.Prelude.{replicate, take}
 use Rattle.std.proofs.Common.{◌≡◌, ℕ, ◌≤◌}
 use Rattle.std.proofs.lemmas.List.{take-replicate}
 
--- so many of 16
-pub zeros_taken : (count : ℕ) → count ≤ 16 → take count (replicate {A = ℕ} 16 0) ≡ replicate count 0
-zeros_taken count few = take-replicate count 16 0 few
+-- so many of eight
+pub zeros_taken : (count : ℕ) → count ≤ 8 → take count (replicate {A = ℕ} 8 0) ≡ replicate count 0
+zeros_taken count few = take-replicate count 8 0 few

@@ -89,7 +89,7 @@ fn passed_count(pace: Pace, count: u32) -> u32
     ensures passed { result ≡ passed_count pace Uint32 count }
     ensures few { result < 16 }
 {
-    if count < few_elements(pace) {
+    if count < few_elements(pace, Kind::Uint32) {
         count
     } else {
         left(pace, Kind::Uint32, count)

@@ -12,11 +12,8 @@ use linked_calls::Pace;
 use rv_code::{Immediate12, ImmediateOperation, Instr, Reg, RegisterOperation};
 use std::alloc::{AllocError, Global};
 
-/// The words that one round of the loop copies at a fast pace; at a small one it copies one element.
-const WORDS: u32 = 8;
-
-/// The elements that it copies at a fast pace where they are smaller.
-const SMALLER: u32 = 4;
+/// The words or bools that one round of the loop copies at a fast pace; of others, and at a small pace, it copies one.
+const ROUND: u32 = 4;
 
 /// From where on a number is no immediate.
 const FAR: u32 = 2048;
@@ -31,24 +28,25 @@ pub enum Way {
 }
 
 /// From how many elements on they are copied by a loop.
-pub fn few_elements(pace: Pace) -> u32
-    ensures few { result ≡ few_elements pace }
+pub fn few_elements(pace: Pace, kind: Kind) -> u32
+    ensures few { result ≡ few_elements pace kind }
     ensures most { result ≤ 16 }
 {
-    match pace {
-        Pace::Fast => 16,
-        Pace::Small => 4,
+    match (pace, kind) {
+        (Pace::Fast, Kind::Boolean | Kind::Uint32) => 16,
+        (Pace::Fast, Kind::Uint8 | Kind::Uint16) => 4,
+        (Pace::Small, Kind::Boolean | Kind::Uint8 | Kind::Uint16 | Kind::Uint32) => 4,
     }
 }
 
 /// How many elements one round of the loop copies.
 fn per_round(pace: Pace, kind: Kind) -> u32
     ensures round { result ≡ per_round pace kind }
-    ensures few { result ≤ 8 }
+    ensures few { result ≤ 4 }
 {
     match (pace, kind) {
-        (Pace::Fast, Kind::Uint32) => WORDS,
-        (Pace::Fast, Kind::Boolean | Kind::Uint8 | Kind::Uint16) => SMALLER,
+        (Pace::Fast, Kind::Boolean | Kind::Uint32) => ROUND,
+        (Pace::Fast, Kind::Uint8 | Kind::Uint16) => 1,
         (Pace::Small, Kind::Boolean | Kind::Uint8 | Kind::Uint16 | Kind::Uint32) => 1,
     }
 }
@@ -59,8 +57,8 @@ fn in_rounds(pace: Pace, kind: Kind, count: u32) -> u32
     ensures within { result ≤ count }
 {
     match (pace, kind) {
-        (Pace::Fast, Kind::Uint32) => WORDS * (count / WORDS),
-        (Pace::Fast, Kind::Boolean | Kind::Uint8 | Kind::Uint16) => SMALLER * (count / SMALLER),
+        (Pace::Fast, Kind::Boolean | Kind::Uint32) => ROUND * (count / ROUND),
+        (Pace::Fast, Kind::Uint8 | Kind::Uint16) => count,
         (Pace::Small, Kind::Boolean | Kind::Uint8 | Kind::Uint16 | Kind::Uint32) => count,
     }
 }
@@ -68,11 +66,11 @@ fn in_rounds(pace: Pace, kind: Kind, count: u32) -> u32
 /// How many are left behind the rounds.
 pub fn left(pace: Pace, kind: Kind, count: u32) -> u32
     ensures left { result ≡ count % per_round pace kind }
-    ensures few { result < 8 }
+    ensures few { result < 4 }
 {
     match (pace, kind) {
-        (Pace::Fast, Kind::Uint32) => count % WORDS,
-        (Pace::Fast, Kind::Boolean | Kind::Uint8 | Kind::Uint16) => count % SMALLER,
+        (Pace::Fast, Kind::Boolean | Kind::Uint32) => count % ROUND,
+        (Pace::Fast, Kind::Uint8 | Kind::Uint16) => 0,
         (Pace::Small, Kind::Boolean | Kind::Uint8 | Kind::Uint16 | Kind::Uint32) => 0,
     }
 }
@@ -199,7 +197,7 @@ pub fn copied(
     requires { count < 65536 }
     ensures { OnOk result (code.new.items ≡ code.old.items ++ copied_code pace (element_code way kind) kind count) }
 {
-    if count < few_elements(pace) {
+    if count < few_elements(pace, kind) {
         elements(code, way, kind, 0, count)
     } else {
         rounds(alloc, code, pace, way, kind, count)

@@ -10,7 +10,7 @@ use rv_code::{Instr, Reg};
 use std::alloc::{AllocError, Global};
 
 /// The words of a run at a fast pace, and at a small one.
-const LONG_RUN: u32 = 16;
+const LONG_RUN: u32 = 8;
 
 const SHORT_RUN: u32 = 4;
 
@@ -24,7 +24,7 @@ const IMMEDIATES: u32 = 4096;
 fn run_words(pace: Pace) -> u32
     ensures run { result ≡ run_words pace }
     ensures some { 0 < result }
-    ensures few { result ≤ 16 }
+    ensures few { result ≤ 8 }
 {
     match pace {
         Pace::Fast => LONG_RUN,
@@ -45,7 +45,7 @@ fn run_count(pace: Pace, room: u32) -> u32
 /// The words of a room beside its runs.
 fn rest_words(pace: Pace, room: u32) -> u32
     ensures rest { result ≡ rest_words pace room }
-    ensures few { result < 16 }
+    ensures few { result < 8 }
 {
     match pace {
         Pace::Fast => room % (LONG_RUN * WORD) / WORD,
@@ -55,17 +55,17 @@ fn rest_words(pace: Pace, room: u32) -> u32
 
 /// So many words of zeros from x2 on.
 fn zeros(code: &mut Vec<Instr>, count: u32) -> Result<(), AllocError>
-    requires { count ≤ 16 }
+    requires { count ≤ 8 }
     ensures { OnOk result (code.new.items ≡ code.old.items ++ zeros_code count) }
 {
-    let zeros = [Reg::X0; 16];
+    let zeros = [Reg::X0; 8];
     stores(code, Reg::X2, 0, &zeros[..count as usize])
 }
 
 /// x2 goes down by so many words, which become zeros.
 fn words_down(alloc: Global, count: u32) -> Result<Vec<Instr>, AllocError>
     requires some { 0 < count }
-    requires few { count ≤ 16 }
+    requires few { count ≤ 8 }
     ensures { IfOk result (λ code. code.items ≡ down_code count) }
 {
     let mut code = Vec::new(alloc);
@@ -76,7 +76,7 @@ fn words_down(alloc: Global, count: u32) -> Result<Vec<Instr>, AllocError>
 
 /// So many words from x2 on become zeros, and x2 goes up by them.
 fn words_up(alloc: Global, count: u32) -> Result<Vec<Instr>, AllocError>
-    requires { count ≤ 16 }
+    requires { count ≤ 8 }
     ensures { IfOk result (λ code. code.items ≡ up_code count) }
 {
     let mut code = Vec::new(alloc);
