@@ -1,4 +1,4 @@
-# aes128_decrypt_2: made by factc 1.0.0 function; 1020 words, 528 bytes of stack, profile 1
+# aes128_decrypt_2: made by factc 1.0.0 function; 980 words, 528 bytes of stack, profile 1
     .option push
     .option norvc
     .option norelax
@@ -56,35 +56,21 @@ aes128_decrypt_2:
     .word 0x01c32423  # sw x28, 8(x6)
     .word 0x00c2ae03  # lw x28, 12(x5)
     .word 0x01c32623  # sw x28, 12(x6)
-    .word 0x0102ae03  # lw x28, 16(x5)
-    .word 0x01c32823  # sw x28, 16(x6)
-    .word 0x0142ae03  # lw x28, 20(x5)
-    .word 0x01c32a23  # sw x28, 20(x6)
-    .word 0x0182ae03  # lw x28, 24(x5)
-    .word 0x01c32c23  # sw x28, 24(x6)
-    .word 0x01c2ae03  # lw x28, 28(x5)
-    .word 0x01c32e23  # sw x28, 28(x6)
-    .word 0x02028293  # addi x5, x5, 32
-    .word 0x02030313  # addi x6, x6, 32
-    .word 0xfa729ce3  # bne x5, x7, -72
+    .word 0x01028293  # addi x5, x5, 16
+    .word 0x01030313  # addi x6, x6, 16
+    .word 0xfc729ce3  # bne x5, x7, -40
     # parameter 1: an array
     .word 0x00058293  # addi x5, x11, 0
     .word 0x16010313  # addi x6, x2, 352
     .word 0x0032fe13  # andi x28, x5, 3
-    .word 0x020e0e63  # beq x28, x0, 60
+    .word 0x020e0263  # beq x28, x0, 36
     .word 0x02000393  # addi x7, x0, 32
     .word 0x005383b3  # add x7, x7, x5
     .word 0x0002ce03  # lbu x28, 0(x5)
     .word 0x01c30023  # sb x28, 0(x6)
-    .word 0x0012ce03  # lbu x28, 1(x5)
-    .word 0x01c300a3  # sb x28, 1(x6)
-    .word 0x0022ce03  # lbu x28, 2(x5)
-    .word 0x01c30123  # sb x28, 2(x6)
-    .word 0x0032ce03  # lbu x28, 3(x5)
-    .word 0x01c301a3  # sb x28, 3(x6)
-    .word 0x00428293  # addi x5, x5, 4
-    .word 0x00430313  # addi x6, x6, 4
-    .word 0xfc729ce3  # bne x5, x7, -40
+    .word 0x00128293  # addi x5, x5, 1
+    .word 0x00130313  # addi x6, x6, 1
+    .word 0xfe7298e3  # bne x5, x7, -16
     .word 0x0440006f  # jal x0, 68
     .word 0x0002ae03  # lw x28, 0(x5)
     .word 0x01c32023  # sw x28, 0(x6)
@@ -316,7 +302,7 @@ aes128_decrypt_2:
     .word 0x1c812283  # lw x5, 456(x2)
     .word 0x005332b3  # sltu x5, x6, x5
     .word 0x00029463  # bne x5, x0, 8
-    .word 0x7ec0006f  # jal x0, 2028
+    .word 0x7bc0006f  # jal x0, 1980
     .word 0x18612023  # sw x6, 384(x2)
     .word 0x00130313  # addi x6, x6, 1
     .word 0x1c612223  # sw x6, 452(x2)
@@ -432,17 +418,13 @@ aes128_decrypt_2:
     .word 0x009442b3  # xor x5, x8, x9
     .word 0x00249313  # slli x6, x9, 2
     .word 0x0062cdb3  # xor x27, x5, x6
-    .word 0x41400433  # sub x8, x0, x20
-    .word 0xfff40413  # addi x8, x8, -1
-    .word 0x41500a33  # sub x20, x0, x21
-    .word 0xfffa0a13  # addi x20, x20, -1
+    .word 0xfffa4413  # xori x8, x20, -1
+    .word 0xfffaca13  # xori x20, x21, -1
     .word 0x000b0693  # addi x13, x22, 0
     .word 0x000b8513  # addi x10, x23, 0
     .word 0x000c0613  # addi x12, x24, 0
-    .word 0x419004b3  # sub x9, x0, x25
-    .word 0xfff48493  # addi x9, x9, -1
-    .word 0x41a00ab3  # sub x21, x0, x26
-    .word 0xfffa8a93  # addi x21, x21, -1
+    .word 0xfffcc493  # xori x9, x25, -1
+    .word 0xfffd4a93  # xori x21, x26, -1
     .word 0x000d8593  # addi x11, x27, 0
     .word 0x018a42b3  # xor x5, x20, x24
     .word 0x0152cdb3  # xor x27, x5, x21
@@ -606,30 +588,22 @@ aes128_decrypt_2:
     .word 0x19012283  # lw x5, 400(x2)
     .word 0x0142cab3  # xor x21, x5, x20
     .word 0x014b4a33  # xor x20, x22, x20
-    .word 0x40800333  # sub x6, x0, x8
-    .word 0xfff30313  # addi x6, x6, -1
-    .word 0x0068cb33  # xor x22, x17, x6
-    .word 0x40e00333  # sub x6, x0, x14
-    .word 0xfff30313  # addi x6, x6, -1
-    .word 0x006ccd33  # xor x26, x25, x6
+    .word 0x0088c2b3  # xor x5, x17, x8
+    .word 0xfff2cb13  # xori x22, x5, -1
+    .word 0x00ecc2b3  # xor x5, x25, x14
+    .word 0xfff2cd13  # xori x26, x5, -1
     .word 0x017c4cb3  # xor x25, x24, x23
     .word 0x015dc433  # xor x8, x27, x21
     .word 0x0154cab3  # xor x21, x9, x21
     .word 0x017544b3  # xor x9, x10, x23
-    .word 0x40800333  # sub x6, x0, x8
-    .word 0xfff30313  # addi x6, x6, -1
-    .word 0x006c4c33  # xor x24, x24, x6
-    .word 0x41900333  # sub x6, x0, x25
-    .word 0xfff30313  # addi x6, x6, -1
-    .word 0x0066cdb3  # xor x27, x13, x6
-    .word 0x41a005b3  # sub x11, x0, x26
-    .word 0xfff58593  # addi x11, x11, -1
-    .word 0x41600b33  # sub x22, x0, x22
-    .word 0xfffb0b13  # addi x22, x22, -1
-    .word 0x41b006b3  # sub x13, x0, x27
-    .word 0xfff68693  # addi x13, x13, -1
-    .word 0x41800533  # sub x10, x0, x24
-    .word 0xfff50513  # addi x10, x10, -1
+    .word 0x008c42b3  # xor x5, x24, x8
+    .word 0xfff2cc13  # xori x24, x5, -1
+    .word 0x0196c2b3  # xor x5, x13, x25
+    .word 0xfff2cd93  # xori x27, x5, -1
+    .word 0xfffd4593  # xori x11, x26, -1
+    .word 0xfffb4b13  # xori x22, x22, -1
+    .word 0xfffdc693  # xori x13, x27, -1
+    .word 0xfffc4513  # xori x10, x24, -1
     .word 0x008b42b3  # xor x5, x22, x8
     .word 0x00a2cdb3  # xor x27, x5, x10
     .word 0x0155c2b3  # xor x5, x11, x21
@@ -822,7 +796,7 @@ aes128_decrypt_2:
     .word 0x00ecccb3  # xor x25, x25, x14
     .word 0x00fd4d33  # xor x26, x26, x15
     .word 0x011dcdb3  # xor x27, x27, x17
-    .word 0x809ff06f  # jal x0, -2040
+    .word 0x839ff06f  # jal x0, -1992
     .word 0x001a5293  # srli x5, x20, 1
     .word 0x0152c2b3  # xor x5, x5, x21
     .word 0x1ac12303  # lw x6, 428(x2)
@@ -969,20 +943,14 @@ aes128_decrypt_2:
     .word 0x20c12283  # lw x5, 524(x2)
     .word 0x16010313  # addi x6, x2, 352
     .word 0x0032fe13  # andi x28, x5, 3
-    .word 0x020e0e63  # beq x28, x0, 60
+    .word 0x020e0263  # beq x28, x0, 36
     .word 0x02000393  # addi x7, x0, 32
     .word 0x005383b3  # add x7, x7, x5
     .word 0x00034e03  # lbu x28, 0(x6)
     .word 0x01c28023  # sb x28, 0(x5)
-    .word 0x00134e03  # lbu x28, 1(x6)
-    .word 0x01c280a3  # sb x28, 1(x5)
-    .word 0x00234e03  # lbu x28, 2(x6)
-    .word 0x01c28123  # sb x28, 2(x5)
-    .word 0x00334e03  # lbu x28, 3(x6)
-    .word 0x01c281a3  # sb x28, 3(x5)
-    .word 0x00428293  # addi x5, x5, 4
-    .word 0x00430313  # addi x6, x6, 4
-    .word 0xfc729ce3  # bne x5, x7, -40
+    .word 0x00128293  # addi x5, x5, 1
+    .word 0x00130313  # addi x6, x6, 1
+    .word 0xfe7298e3  # bne x5, x7, -16
     .word 0x0440006f  # jal x0, 68
     .word 0x00032e03  # lw x28, 0(x6)
     .word 0x01c2a023  # sw x28, 0(x5)
@@ -1044,16 +1012,8 @@ aes128_decrypt_2:
     .word 0x00012a23  # sw x0, 20(x2)
     .word 0x00012c23  # sw x0, 24(x2)
     .word 0x00012e23  # sw x0, 28(x2)
-    .word 0x02012023  # sw x0, 32(x2)
-    .word 0x02012223  # sw x0, 36(x2)
-    .word 0x02012423  # sw x0, 40(x2)
-    .word 0x02012623  # sw x0, 44(x2)
-    .word 0x02012823  # sw x0, 48(x2)
-    .word 0x02012a23  # sw x0, 52(x2)
-    .word 0x02012c23  # sw x0, 56(x2)
-    .word 0x02012e23  # sw x0, 60(x2)
-    .word 0x04010113  # addi x2, x2, 64
-    .word 0xfa511ee3  # bne x2, x5, -68
+    .word 0x02010113  # addi x2, x2, 32
+    .word 0xfc511ee3  # bne x2, x5, -36
     .cfi_def_cfa 2, 0
     # temporaries, wiped
     .word 0x00000293  # addi x5, x0, 0

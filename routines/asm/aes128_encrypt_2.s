@@ -1,4 +1,4 @@
-# aes128_encrypt_2: made by factc 1.0.0 function; 912 words, 528 bytes of stack, profile 1
+# aes128_encrypt_2: made by factc 1.0.0 function; 880 words, 528 bytes of stack, profile 1
     .option push
     .option norvc
     .option norelax
@@ -56,35 +56,21 @@ aes128_encrypt_2:
     .word 0x01c32423  # sw x28, 8(x6)
     .word 0x00c2ae03  # lw x28, 12(x5)
     .word 0x01c32623  # sw x28, 12(x6)
-    .word 0x0102ae03  # lw x28, 16(x5)
-    .word 0x01c32823  # sw x28, 16(x6)
-    .word 0x0142ae03  # lw x28, 20(x5)
-    .word 0x01c32a23  # sw x28, 20(x6)
-    .word 0x0182ae03  # lw x28, 24(x5)
-    .word 0x01c32c23  # sw x28, 24(x6)
-    .word 0x01c2ae03  # lw x28, 28(x5)
-    .word 0x01c32e23  # sw x28, 28(x6)
-    .word 0x02028293  # addi x5, x5, 32
-    .word 0x02030313  # addi x6, x6, 32
-    .word 0xfa729ce3  # bne x5, x7, -72
+    .word 0x01028293  # addi x5, x5, 16
+    .word 0x01030313  # addi x6, x6, 16
+    .word 0xfc729ce3  # bne x5, x7, -40
     # parameter 1: an array
     .word 0x00058293  # addi x5, x11, 0
     .word 0x16010313  # addi x6, x2, 352
     .word 0x0032fe13  # andi x28, x5, 3
-    .word 0x020e0e63  # beq x28, x0, 60
+    .word 0x020e0263  # beq x28, x0, 36
     .word 0x02000393  # addi x7, x0, 32
     .word 0x005383b3  # add x7, x7, x5
     .word 0x0002ce03  # lbu x28, 0(x5)
     .word 0x01c30023  # sb x28, 0(x6)
-    .word 0x0012ce03  # lbu x28, 1(x5)
-    .word 0x01c300a3  # sb x28, 1(x6)
-    .word 0x0022ce03  # lbu x28, 2(x5)
-    .word 0x01c30123  # sb x28, 2(x6)
-    .word 0x0032ce03  # lbu x28, 3(x5)
-    .word 0x01c301a3  # sb x28, 3(x6)
-    .word 0x00428293  # addi x5, x5, 4
-    .word 0x00430313  # addi x6, x6, 4
-    .word 0xfc729ce3  # bne x5, x7, -40
+    .word 0x00128293  # addi x5, x5, 1
+    .word 0x00130313  # addi x6, x6, 1
+    .word 0xfe7298e3  # bne x5, x7, -16
     .word 0x0440006f  # jal x0, 68
     .word 0x0002ae03  # lw x28, 0(x5)
     .word 0x01c32023  # sw x28, 0(x6)
@@ -316,7 +302,7 @@ aes128_encrypt_2:
     .word 0x1cc12283  # lw x5, 460(x2)
     .word 0x005332b3  # sltu x5, x6, x5
     .word 0x00029463  # bne x5, x0, 8
-    .word 0x63c0006f  # jal x0, 1596
+    .word 0x62c0006f  # jal x0, 1580
     .word 0x18612023  # sw x6, 384(x2)
     .word 0x00130313  # addi x6, x6, 1
     .word 0x1c612423  # sw x6, 456(x2)
@@ -484,24 +470,20 @@ aes128_encrypt_2:
     .word 0x19c12283  # lw x5, 412(x2)
     .word 0x0192cb33  # xor x22, x5, x25
     .word 0x019a46b3  # xor x13, x20, x25
-    .word 0x40f00333  # sub x6, x0, x15
-    .word 0xfff30313  # addi x6, x6, -1
-    .word 0x00674a33  # xor x20, x14, x6
-    .word 0x41500333  # sub x6, x0, x21
-    .word 0xfff30313  # addi x6, x6, -1
-    .word 0x006bc833  # xor x16, x23, x6
+    .word 0x00f742b3  # xor x5, x14, x15
+    .word 0xfff2ca13  # xori x20, x5, -1
+    .word 0x015bc2b3  # xor x5, x23, x21
+    .word 0xfff2c813  # xori x16, x5, -1
     .word 0x0189c7b3  # xor x15, x19, x24
     .word 0x01694cb3  # xor x25, x18, x22
     .word 0x01644b33  # xor x22, x8, x22
     .word 0x18412283  # lw x5, 388(x2)
     .word 0x0182cc33  # xor x24, x5, x24
-    .word 0x41900333  # sub x6, x0, x25
-    .word 0xfff30313  # addi x6, x6, -1
-    .word 0x0069c733  # xor x14, x19, x6
+    .word 0x0199c2b3  # xor x5, x19, x25
+    .word 0xfff2c713  # xori x14, x5, -1
     .word 0x19412283  # lw x5, 404(x2)
-    .word 0x40f00333  # sub x6, x0, x15
-    .word 0xfff30313  # addi x6, x6, -1
-    .word 0x0062cbb3  # xor x23, x5, x6
+    .word 0x00f2c2b3  # xor x5, x5, x15
+    .word 0xfff2cb93  # xori x23, x5, -1
     .word 0x00485313  # srli x6, x16, 4
     .word 0x006842b3  # xor x5, x16, x6
     .word 0x01a2f7b3  # and x15, x5, x26
@@ -714,7 +696,7 @@ aes128_encrypt_2:
     .word 0x006c4c33  # xor x24, x24, x6
     .word 0x01cda303  # lw x6, 28(x27)
     .word 0x006cccb3  # xor x25, x25, x6
-    .word 0x9b9ff06f  # jal x0, -1608
+    .word 0x9c9ff06f  # jal x0, -1592
     .word 0x00195293  # srli x5, x18, 1
     .word 0x0132c2b3  # xor x5, x5, x19
     .word 0x1b412303  # lw x6, 436(x2)
@@ -861,20 +843,14 @@ aes128_encrypt_2:
     .word 0x20c12283  # lw x5, 524(x2)
     .word 0x16010313  # addi x6, x2, 352
     .word 0x0032fe13  # andi x28, x5, 3
-    .word 0x020e0e63  # beq x28, x0, 60
+    .word 0x020e0263  # beq x28, x0, 36
     .word 0x02000393  # addi x7, x0, 32
     .word 0x005383b3  # add x7, x7, x5
     .word 0x00034e03  # lbu x28, 0(x6)
     .word 0x01c28023  # sb x28, 0(x5)
-    .word 0x00134e03  # lbu x28, 1(x6)
-    .word 0x01c280a3  # sb x28, 1(x5)
-    .word 0x00234e03  # lbu x28, 2(x6)
-    .word 0x01c28123  # sb x28, 2(x5)
-    .word 0x00334e03  # lbu x28, 3(x6)
-    .word 0x01c281a3  # sb x28, 3(x5)
-    .word 0x00428293  # addi x5, x5, 4
-    .word 0x00430313  # addi x6, x6, 4
-    .word 0xfc729ce3  # bne x5, x7, -40
+    .word 0x00128293  # addi x5, x5, 1
+    .word 0x00130313  # addi x6, x6, 1
+    .word 0xfe7298e3  # bne x5, x7, -16
     .word 0x0440006f  # jal x0, 68
     .word 0x00032e03  # lw x28, 0(x6)
     .word 0x01c2a023  # sw x28, 0(x5)
@@ -936,16 +912,8 @@ aes128_encrypt_2:
     .word 0x00012a23  # sw x0, 20(x2)
     .word 0x00012c23  # sw x0, 24(x2)
     .word 0x00012e23  # sw x0, 28(x2)
-    .word 0x02012023  # sw x0, 32(x2)
-    .word 0x02012223  # sw x0, 36(x2)
-    .word 0x02012423  # sw x0, 40(x2)
-    .word 0x02012623  # sw x0, 44(x2)
-    .word 0x02012823  # sw x0, 48(x2)
-    .word 0x02012a23  # sw x0, 52(x2)
-    .word 0x02012c23  # sw x0, 56(x2)
-    .word 0x02012e23  # sw x0, 60(x2)
-    .word 0x04010113  # addi x2, x2, 64
-    .word 0xfa511ee3  # bne x2, x5, -68
+    .word 0x02010113  # addi x2, x2, 32
+    .word 0xfc511ee3  # bne x2, x5, -36
     .cfi_def_cfa 2, 0
     # temporaries, wiped
     .word 0x00000293  # addi x5, x0, 0

@@ -1,4 +1,4 @@
-# aes128_expand: made by factc 1.0.0 function; 783 words, 560 bytes of stack, profile 1
+# aes128_expand: made by factc 1.0.0 function; 709 words, 560 bytes of stack, profile 1
     .option push
     .option norvc
     .option norelax
@@ -45,20 +45,14 @@ aes128_expand:
     .word 0x00050293  # addi x5, x10, 0
     .word 0x00010313  # addi x6, x2, 0
     .word 0x0032fe13  # andi x28, x5, 3
-    .word 0x020e0e63  # beq x28, x0, 60
+    .word 0x020e0263  # beq x28, x0, 36
     .word 0x01000393  # addi x7, x0, 16
     .word 0x005383b3  # add x7, x7, x5
     .word 0x0002ce03  # lbu x28, 0(x5)
     .word 0x01c30023  # sb x28, 0(x6)
-    .word 0x0012ce03  # lbu x28, 1(x5)
-    .word 0x01c300a3  # sb x28, 1(x6)
-    .word 0x0022ce03  # lbu x28, 2(x5)
-    .word 0x01c30123  # sb x28, 2(x6)
-    .word 0x0032ce03  # lbu x28, 3(x5)
-    .word 0x01c301a3  # sb x28, 3(x6)
-    .word 0x00428293  # addi x5, x5, 4
-    .word 0x00430313  # addi x6, x6, 4
-    .word 0xfc729ce3  # bne x5, x7, -40
+    .word 0x00128293  # addi x5, x5, 1
+    .word 0x00130313  # addi x6, x6, 1
+    .word 0xfe7298e3  # bne x5, x7, -16
     .word 0x0240006f  # jal x0, 36
     .word 0x0002ae03  # lw x28, 0(x5)
     .word 0x01c32023  # sw x28, 0(x6)
@@ -105,16 +99,6 @@ aes128_expand:
     .word 0x00314303  # lbu x6, 3(x2)
     .word 0x01831313  # slli x6, x6, 24
     .word 0x0062ea33  # or x20, x5, x6
-    .word 0x00014283  # lbu x5, 0(x2)
-    .word 0x00114303  # lbu x6, 1(x2)
-    .word 0x00831313  # slli x6, x6, 8
-    .word 0x0062e9b3  # or x19, x5, x6
-    .word 0x00214303  # lbu x6, 2(x2)
-    .word 0x01031313  # slli x6, x6, 16
-    .word 0x0069e2b3  # or x5, x19, x6
-    .word 0x00314303  # lbu x6, 3(x2)
-    .word 0x01831313  # slli x6, x6, 24
-    .word 0x0062eab3  # or x21, x5, x6
     .word 0x00414283  # lbu x5, 4(x2)
     .word 0x00514303  # lbu x6, 5(x2)
     .word 0x00831313  # slli x6, x6, 8
@@ -125,16 +109,6 @@ aes128_expand:
     .word 0x00714303  # lbu x6, 7(x2)
     .word 0x01831313  # slli x6, x6, 24
     .word 0x0062eb33  # or x22, x5, x6
-    .word 0x00414283  # lbu x5, 4(x2)
-    .word 0x00514303  # lbu x6, 5(x2)
-    .word 0x00831313  # slli x6, x6, 8
-    .word 0x0062e9b3  # or x19, x5, x6
-    .word 0x00614303  # lbu x6, 6(x2)
-    .word 0x01031313  # slli x6, x6, 16
-    .word 0x0069e2b3  # or x5, x19, x6
-    .word 0x00714303  # lbu x6, 7(x2)
-    .word 0x01831313  # slli x6, x6, 24
-    .word 0x0062ebb3  # or x23, x5, x6
     .word 0x00814283  # lbu x5, 8(x2)
     .word 0x00914303  # lbu x6, 9(x2)
     .word 0x00831313  # slli x6, x6, 8
@@ -145,16 +119,6 @@ aes128_expand:
     .word 0x00b14303  # lbu x6, 11(x2)
     .word 0x01831313  # slli x6, x6, 24
     .word 0x0062ec33  # or x24, x5, x6
-    .word 0x00814283  # lbu x5, 8(x2)
-    .word 0x00914303  # lbu x6, 9(x2)
-    .word 0x00831313  # slli x6, x6, 8
-    .word 0x0062e9b3  # or x19, x5, x6
-    .word 0x00a14303  # lbu x6, 10(x2)
-    .word 0x01031313  # slli x6, x6, 16
-    .word 0x0069e2b3  # or x5, x19, x6
-    .word 0x00b14303  # lbu x6, 11(x2)
-    .word 0x01831313  # slli x6, x6, 24
-    .word 0x0062ecb3  # or x25, x5, x6
     .word 0x00c14283  # lbu x5, 12(x2)
     .word 0x00d14303  # lbu x6, 13(x2)
     .word 0x00831313  # slli x6, x6, 8
@@ -165,42 +129,32 @@ aes128_expand:
     .word 0x00f14303  # lbu x6, 15(x2)
     .word 0x01831313  # slli x6, x6, 24
     .word 0x0062ed33  # or x26, x5, x6
-    .word 0x00c14283  # lbu x5, 12(x2)
-    .word 0x00d14303  # lbu x6, 13(x2)
-    .word 0x00831313  # slli x6, x6, 8
-    .word 0x0062e9b3  # or x19, x5, x6
-    .word 0x00e14303  # lbu x6, 14(x2)
-    .word 0x01031313  # slli x6, x6, 16
-    .word 0x0069e2b3  # or x5, x19, x6
-    .word 0x00f14303  # lbu x6, 15(x2)
-    .word 0x01831313  # slli x6, x6, 24
-    .word 0x0062e9b3  # or x19, x5, x6
     .word 0x001a5293  # srli x5, x20, 1
-    .word 0x0152c2b3  # xor x5, x5, x21
+    .word 0x0142c2b3  # xor x5, x5, x20
     .word 0x1cc12303  # lw x6, 460(x2)
     .word 0x0062f5b3  # and x11, x5, x6
-    .word 0x00bacab3  # xor x21, x21, x11
+    .word 0x00ba4ab3  # xor x21, x20, x11
     .word 0x00159313  # slli x6, x11, 1
     .word 0x006a4a33  # xor x20, x20, x6
     .word 0x001b5293  # srli x5, x22, 1
-    .word 0x0172c2b3  # xor x5, x5, x23
+    .word 0x0162c2b3  # xor x5, x5, x22
     .word 0x1cc12303  # lw x6, 460(x2)
     .word 0x0062f5b3  # and x11, x5, x6
-    .word 0x00bbcbb3  # xor x23, x23, x11
+    .word 0x00bb4bb3  # xor x23, x22, x11
     .word 0x00159313  # slli x6, x11, 1
     .word 0x006b4b33  # xor x22, x22, x6
     .word 0x001c5293  # srli x5, x24, 1
-    .word 0x0192c2b3  # xor x5, x5, x25
+    .word 0x0182c2b3  # xor x5, x5, x24
     .word 0x1cc12303  # lw x6, 460(x2)
     .word 0x0062f5b3  # and x11, x5, x6
-    .word 0x00bcccb3  # xor x25, x25, x11
+    .word 0x00bc4cb3  # xor x25, x24, x11
     .word 0x00159313  # slli x6, x11, 1
     .word 0x006c4c33  # xor x24, x24, x6
     .word 0x001d5293  # srli x5, x26, 1
-    .word 0x0132c2b3  # xor x5, x5, x19
+    .word 0x01a2c2b3  # xor x5, x5, x26
     .word 0x1cc12303  # lw x6, 460(x2)
     .word 0x0062f5b3  # and x11, x5, x6
-    .word 0x00b9c9b3  # xor x19, x19, x11
+    .word 0x00bd49b3  # xor x19, x26, x11
     .word 0x00159313  # slli x6, x11, 1
     .word 0x006d4d33  # xor x26, x26, x6
     .word 0x002a5293  # srli x5, x20, 2
@@ -469,32 +423,28 @@ aes128_expand:
     .word 0x006acc33  # xor x24, x21, x6
     .word 0x0135c833  # xor x16, x11, x19
     .word 0x1ac12283  # lw x5, 428(x2)
-    .word 0x0132c5b3  # xor x11, x5, x19
+    .word 0x0132cab3  # xor x21, x5, x19
     .word 0x19c12283  # lw x5, 412(x2)
     .word 0x0162c9b3  # xor x19, x5, x22
     .word 0x016d4b33  # xor x22, x26, x22
-    .word 0x018bcab3  # xor x21, x23, x24
-    .word 0x0135cd33  # xor x26, x11, x19
+    .word 0x018bcd33  # xor x26, x23, x24
+    .word 0x013acab3  # xor x21, x21, x19
     .word 0x1b412283  # lw x5, 436(x2)
     .word 0x0162cbb3  # xor x23, x5, x22
     .word 0x016c45b3  # xor x11, x24, x22
-    .word 0x41300333  # sub x6, x0, x19
-    .word 0xfff30313  # addi x6, x6, -1
-    .word 0x0067cb33  # xor x22, x15, x6
-    .word 0x41000333  # sub x6, x0, x16
-    .word 0xfff30313  # addi x6, x6, -1
-    .word 0x006649b3  # xor x19, x12, x6
-    .word 0x01aac833  # xor x16, x21, x26
+    .word 0x0137c2b3  # xor x5, x15, x19
+    .word 0xfff2cb13  # xori x22, x5, -1
+    .word 0x010642b3  # xor x5, x12, x16
+    .word 0xfff2c993  # xori x19, x5, -1
+    .word 0x015d4633  # xor x12, x26, x21
     .word 0x017a4c33  # xor x24, x20, x23
     .word 0x017ccbb3  # xor x23, x25, x23
-    .word 0x01a6cd33  # xor x26, x13, x26
-    .word 0x41800333  # sub x6, x0, x24
-    .word 0xfff30313  # addi x6, x6, -1
-    .word 0x006ac633  # xor x12, x21, x6
+    .word 0x0156ccb3  # xor x25, x13, x21
+    .word 0x018d42b3  # xor x5, x26, x24
+    .word 0xfff2cd13  # xori x26, x5, -1
     .word 0x19812283  # lw x5, 408(x2)
-    .word 0x41000333  # sub x6, x0, x16
-    .word 0xfff30313  # addi x6, x6, -1
-    .word 0x0062ccb3  # xor x25, x5, x6
+    .word 0x00c2c2b3  # xor x5, x5, x12
+    .word 0xfff2c613  # xori x12, x5, -1
     .word 0x01b9f9b3  # and x19, x19, x27
     .word 0x01899f13  # slli x30, x19, 24
     .word 0x0089d293  # srli x5, x19, 8
@@ -551,7 +501,7 @@ aes128_expand:
     .word 0x002282b3  # add x5, x5, x2
     .word 0x0332a823  # sw x19, 48(x5)
     .word 0x00098a93  # addi x21, x19, 0
-    .word 0x01bd79b3  # and x19, x26, x27
+    .word 0x01bcf9b3  # and x19, x25, x27
     .word 0x01899f13  # slli x30, x19, 24
     .word 0x0089d293  # srli x5, x19, 8
     .word 0x005f02b3  # add x5, x30, x5
@@ -638,7 +588,7 @@ aes128_expand:
     .word 0x002282b3  # add x5, x5, x2
     .word 0x0332a823  # sw x19, 48(x5)
     .word 0x00098c13  # addi x24, x19, 0
-    .word 0x01bcf9b3  # and x19, x25, x27
+    .word 0x01b679b3  # and x19, x12, x27
     .word 0x01899f13  # slli x30, x19, 24
     .word 0x0089d293  # srli x5, x19, 8
     .word 0x005f02b3  # add x5, x30, x5
@@ -667,7 +617,7 @@ aes128_expand:
     .word 0x002282b3  # add x5, x5, x2
     .word 0x0332a823  # sw x19, 48(x5)
     .word 0x00098c93  # addi x25, x19, 0
-    .word 0x01b679b3  # and x19, x12, x27
+    .word 0x01bd79b3  # and x19, x26, x27
     .word 0x01899f13  # slli x30, x19, 24
     .word 0x0089d293  # srli x5, x19, 8
     .word 0x005f02b3  # add x5, x30, x5
@@ -726,7 +676,7 @@ aes128_expand:
     .word 0x0332a823  # sw x19, 48(x5)
     .word 0x00148493  # addi x9, x9, 1
     .word 0x00a4b293  # sltiu x5, x9, 10
-    .word 0x920294e3  # bne x5, x0, -1752
+    .word 0x92029ce3  # bne x5, x0, -1736
     .word 0xfff48493  # addi x9, x9, -1
     # the result
     .word 0x00000513  # addi x10, x0, 0
@@ -743,17 +693,9 @@ aes128_expand:
     .word 0x01c2a423  # sw x28, 8(x5)
     .word 0x00c32e03  # lw x28, 12(x6)
     .word 0x01c2a623  # sw x28, 12(x5)
-    .word 0x01032e03  # lw x28, 16(x6)
-    .word 0x01c2a823  # sw x28, 16(x5)
-    .word 0x01432e03  # lw x28, 20(x6)
-    .word 0x01c2aa23  # sw x28, 20(x5)
-    .word 0x01832e03  # lw x28, 24(x6)
-    .word 0x01c2ac23  # sw x28, 24(x5)
-    .word 0x01c32e03  # lw x28, 28(x6)
-    .word 0x01c2ae23  # sw x28, 28(x5)
-    .word 0x02028293  # addi x5, x5, 32
-    .word 0x02030313  # addi x6, x6, 32
-    .word 0xfa729ce3  # bne x5, x7, -72
+    .word 0x01028293  # addi x5, x5, 16
+    .word 0x01030313  # addi x6, x6, 16
+    .word 0xfc729ce3  # bne x5, x7, -40
     # above the frame
     .word 0x1f010293  # addi x5, x2, 496
     # the caller's registers
@@ -787,15 +729,7 @@ aes128_expand:
     .word 0x00012223  # sw x0, 4(x2)
     .word 0x00012423  # sw x0, 8(x2)
     .word 0x00012623  # sw x0, 12(x2)
-    .word 0x00012823  # sw x0, 16(x2)
-    .word 0x00012a23  # sw x0, 20(x2)
-    .word 0x00012c23  # sw x0, 24(x2)
-    .word 0x00012e23  # sw x0, 28(x2)
-    .word 0x02012023  # sw x0, 32(x2)
-    .word 0x02012223  # sw x0, 36(x2)
-    .word 0x02012423  # sw x0, 40(x2)
-    .word 0x02012623  # sw x0, 44(x2)
-    .word 0x03010113  # addi x2, x2, 48
+    .word 0x01010113  # addi x2, x2, 16
     .word 0x00012023  # sw x0, 0(x2)
     .word 0x00012223  # sw x0, 4(x2)
     .word 0x00012423  # sw x0, 8(x2)
@@ -804,16 +738,8 @@ aes128_expand:
     .word 0x00012a23  # sw x0, 20(x2)
     .word 0x00012c23  # sw x0, 24(x2)
     .word 0x00012e23  # sw x0, 28(x2)
-    .word 0x02012023  # sw x0, 32(x2)
-    .word 0x02012223  # sw x0, 36(x2)
-    .word 0x02012423  # sw x0, 40(x2)
-    .word 0x02012623  # sw x0, 44(x2)
-    .word 0x02012823  # sw x0, 48(x2)
-    .word 0x02012a23  # sw x0, 52(x2)
-    .word 0x02012c23  # sw x0, 56(x2)
-    .word 0x02012e23  # sw x0, 60(x2)
-    .word 0x04010113  # addi x2, x2, 64
-    .word 0xfa511ee3  # bne x2, x5, -68
+    .word 0x02010113  # addi x2, x2, 32
+    .word 0xfc511ee3  # bne x2, x5, -36
     .cfi_def_cfa 2, 0
     # temporaries, wiped
     .word 0x00000293  # addi x5, x0, 0

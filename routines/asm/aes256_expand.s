@@ -1,4 +1,4 @@
-# aes256_expand: made by factc 1.0.0 function; 968 words, 656 bytes of stack, profile 1
+# aes256_expand: made by factc 1.0.0 function; 862 words, 656 bytes of stack, profile 1
     .option push
     .option norvc
     .option norelax
@@ -45,20 +45,14 @@ aes256_expand:
     .word 0x00050293  # addi x5, x10, 0
     .word 0x00010313  # addi x6, x2, 0
     .word 0x0032fe13  # andi x28, x5, 3
-    .word 0x020e0e63  # beq x28, x0, 60
+    .word 0x020e0263  # beq x28, x0, 36
     .word 0x02000393  # addi x7, x0, 32
     .word 0x005383b3  # add x7, x7, x5
     .word 0x0002ce03  # lbu x28, 0(x5)
     .word 0x01c30023  # sb x28, 0(x6)
-    .word 0x0012ce03  # lbu x28, 1(x5)
-    .word 0x01c300a3  # sb x28, 1(x6)
-    .word 0x0022ce03  # lbu x28, 2(x5)
-    .word 0x01c30123  # sb x28, 2(x6)
-    .word 0x0032ce03  # lbu x28, 3(x5)
-    .word 0x01c301a3  # sb x28, 3(x6)
-    .word 0x00428293  # addi x5, x5, 4
-    .word 0x00430313  # addi x6, x6, 4
-    .word 0xfc729ce3  # bne x5, x7, -40
+    .word 0x00128293  # addi x5, x5, 1
+    .word 0x00130313  # addi x6, x6, 1
+    .word 0xfe7298e3  # bne x5, x7, -16
     .word 0x0440006f  # jal x0, 68
     .word 0x0002ae03  # lw x28, 0(x5)
     .word 0x01c32023  # sw x28, 0(x6)
@@ -109,16 +103,6 @@ aes256_expand:
     .word 0x00314303  # lbu x6, 3(x2)
     .word 0x01831313  # slli x6, x6, 24
     .word 0x0062e8b3  # or x17, x5, x6
-    .word 0x00014283  # lbu x5, 0(x2)
-    .word 0x00114303  # lbu x6, 1(x2)
-    .word 0x00831313  # slli x6, x6, 8
-    .word 0x0062ec33  # or x24, x5, x6
-    .word 0x00214303  # lbu x6, 2(x2)
-    .word 0x01031313  # slli x6, x6, 16
-    .word 0x006c62b3  # or x5, x24, x6
-    .word 0x00314303  # lbu x6, 3(x2)
-    .word 0x01831313  # slli x6, x6, 24
-    .word 0x0062e933  # or x18, x5, x6
     .word 0x00414283  # lbu x5, 4(x2)
     .word 0x00514303  # lbu x6, 5(x2)
     .word 0x00831313  # slli x6, x6, 8
@@ -129,16 +113,6 @@ aes256_expand:
     .word 0x00714303  # lbu x6, 7(x2)
     .word 0x01831313  # slli x6, x6, 24
     .word 0x0062e9b3  # or x19, x5, x6
-    .word 0x00414283  # lbu x5, 4(x2)
-    .word 0x00514303  # lbu x6, 5(x2)
-    .word 0x00831313  # slli x6, x6, 8
-    .word 0x0062ec33  # or x24, x5, x6
-    .word 0x00614303  # lbu x6, 6(x2)
-    .word 0x01031313  # slli x6, x6, 16
-    .word 0x006c62b3  # or x5, x24, x6
-    .word 0x00714303  # lbu x6, 7(x2)
-    .word 0x01831313  # slli x6, x6, 24
-    .word 0x0062ea33  # or x20, x5, x6
     .word 0x00814283  # lbu x5, 8(x2)
     .word 0x00914303  # lbu x6, 9(x2)
     .word 0x00831313  # slli x6, x6, 8
@@ -149,16 +123,6 @@ aes256_expand:
     .word 0x00b14303  # lbu x6, 11(x2)
     .word 0x01831313  # slli x6, x6, 24
     .word 0x0062eab3  # or x21, x5, x6
-    .word 0x00814283  # lbu x5, 8(x2)
-    .word 0x00914303  # lbu x6, 9(x2)
-    .word 0x00831313  # slli x6, x6, 8
-    .word 0x0062ec33  # or x24, x5, x6
-    .word 0x00a14303  # lbu x6, 10(x2)
-    .word 0x01031313  # slli x6, x6, 16
-    .word 0x006c62b3  # or x5, x24, x6
-    .word 0x00b14303  # lbu x6, 11(x2)
-    .word 0x01831313  # slli x6, x6, 24
-    .word 0x0062eb33  # or x22, x5, x6
     .word 0x00c14283  # lbu x5, 12(x2)
     .word 0x00d14303  # lbu x6, 13(x2)
     .word 0x00831313  # slli x6, x6, 8
@@ -169,42 +133,32 @@ aes256_expand:
     .word 0x00f14303  # lbu x6, 15(x2)
     .word 0x01831313  # slli x6, x6, 24
     .word 0x0062ebb3  # or x23, x5, x6
-    .word 0x00c14283  # lbu x5, 12(x2)
-    .word 0x00d14303  # lbu x6, 13(x2)
-    .word 0x00831313  # slli x6, x6, 8
-    .word 0x0062ec33  # or x24, x5, x6
-    .word 0x00e14303  # lbu x6, 14(x2)
-    .word 0x01031313  # slli x6, x6, 16
-    .word 0x006c62b3  # or x5, x24, x6
-    .word 0x00f14303  # lbu x6, 15(x2)
-    .word 0x01831313  # slli x6, x6, 24
-    .word 0x0062ec33  # or x24, x5, x6
     .word 0x0018d293  # srli x5, x17, 1
-    .word 0x0122c2b3  # xor x5, x5, x18
+    .word 0x0112c2b3  # xor x5, x5, x17
     .word 0x23812303  # lw x6, 568(x2)
     .word 0x0062f533  # and x10, x5, x6
-    .word 0x00a94933  # xor x18, x18, x10
+    .word 0x00a8c933  # xor x18, x17, x10
     .word 0x00151313  # slli x6, x10, 1
     .word 0x0068c8b3  # xor x17, x17, x6
     .word 0x0019d293  # srli x5, x19, 1
-    .word 0x0142c2b3  # xor x5, x5, x20
+    .word 0x0132c2b3  # xor x5, x5, x19
     .word 0x23812303  # lw x6, 568(x2)
     .word 0x0062f533  # and x10, x5, x6
-    .word 0x00aa4a33  # xor x20, x20, x10
+    .word 0x00a9ca33  # xor x20, x19, x10
     .word 0x00151313  # slli x6, x10, 1
     .word 0x0069c9b3  # xor x19, x19, x6
     .word 0x001ad293  # srli x5, x21, 1
-    .word 0x0162c2b3  # xor x5, x5, x22
+    .word 0x0152c2b3  # xor x5, x5, x21
     .word 0x23812303  # lw x6, 568(x2)
     .word 0x0062f533  # and x10, x5, x6
-    .word 0x00ab4b33  # xor x22, x22, x10
+    .word 0x00aacb33  # xor x22, x21, x10
     .word 0x00151313  # slli x6, x10, 1
     .word 0x006acab3  # xor x21, x21, x6
     .word 0x001bd293  # srli x5, x23, 1
-    .word 0x0182c2b3  # xor x5, x5, x24
+    .word 0x0172c2b3  # xor x5, x5, x23
     .word 0x23812303  # lw x6, 568(x2)
     .word 0x0062f533  # and x10, x5, x6
-    .word 0x00ac4c33  # xor x24, x24, x10
+    .word 0x00abcc33  # xor x24, x23, x10
     .word 0x00151313  # slli x6, x10, 1
     .word 0x006bcbb3  # xor x23, x23, x6
     .word 0x0028d293  # srli x5, x17, 2
@@ -281,16 +235,6 @@ aes256_expand:
     .word 0x01314303  # lbu x6, 19(x2)
     .word 0x01831313  # slli x6, x6, 24
     .word 0x0062e8b3  # or x17, x5, x6
-    .word 0x01014283  # lbu x5, 16(x2)
-    .word 0x01114303  # lbu x6, 17(x2)
-    .word 0x00831313  # slli x6, x6, 8
-    .word 0x0062ec33  # or x24, x5, x6
-    .word 0x01214303  # lbu x6, 18(x2)
-    .word 0x01031313  # slli x6, x6, 16
-    .word 0x006c62b3  # or x5, x24, x6
-    .word 0x01314303  # lbu x6, 19(x2)
-    .word 0x01831313  # slli x6, x6, 24
-    .word 0x0062e933  # or x18, x5, x6
     .word 0x01414283  # lbu x5, 20(x2)
     .word 0x01514303  # lbu x6, 21(x2)
     .word 0x00831313  # slli x6, x6, 8
@@ -301,16 +245,6 @@ aes256_expand:
     .word 0x01714303  # lbu x6, 23(x2)
     .word 0x01831313  # slli x6, x6, 24
     .word 0x0062e9b3  # or x19, x5, x6
-    .word 0x01414283  # lbu x5, 20(x2)
-    .word 0x01514303  # lbu x6, 21(x2)
-    .word 0x00831313  # slli x6, x6, 8
-    .word 0x0062ec33  # or x24, x5, x6
-    .word 0x01614303  # lbu x6, 22(x2)
-    .word 0x01031313  # slli x6, x6, 16
-    .word 0x006c62b3  # or x5, x24, x6
-    .word 0x01714303  # lbu x6, 23(x2)
-    .word 0x01831313  # slli x6, x6, 24
-    .word 0x0062ea33  # or x20, x5, x6
     .word 0x01814283  # lbu x5, 24(x2)
     .word 0x01914303  # lbu x6, 25(x2)
     .word 0x00831313  # slli x6, x6, 8
@@ -321,16 +255,6 @@ aes256_expand:
     .word 0x01b14303  # lbu x6, 27(x2)
     .word 0x01831313  # slli x6, x6, 24
     .word 0x0062eab3  # or x21, x5, x6
-    .word 0x01814283  # lbu x5, 24(x2)
-    .word 0x01914303  # lbu x6, 25(x2)
-    .word 0x00831313  # slli x6, x6, 8
-    .word 0x0062ec33  # or x24, x5, x6
-    .word 0x01a14303  # lbu x6, 26(x2)
-    .word 0x01031313  # slli x6, x6, 16
-    .word 0x006c62b3  # or x5, x24, x6
-    .word 0x01b14303  # lbu x6, 27(x2)
-    .word 0x01831313  # slli x6, x6, 24
-    .word 0x0062eb33  # or x22, x5, x6
     .word 0x01c14283  # lbu x5, 28(x2)
     .word 0x01d14303  # lbu x6, 29(x2)
     .word 0x00831313  # slli x6, x6, 8
@@ -341,42 +265,32 @@ aes256_expand:
     .word 0x01f14303  # lbu x6, 31(x2)
     .word 0x01831313  # slli x6, x6, 24
     .word 0x0062ebb3  # or x23, x5, x6
-    .word 0x01c14283  # lbu x5, 28(x2)
-    .word 0x01d14303  # lbu x6, 29(x2)
-    .word 0x00831313  # slli x6, x6, 8
-    .word 0x0062ec33  # or x24, x5, x6
-    .word 0x01e14303  # lbu x6, 30(x2)
-    .word 0x01031313  # slli x6, x6, 16
-    .word 0x006c62b3  # or x5, x24, x6
-    .word 0x01f14303  # lbu x6, 31(x2)
-    .word 0x01831313  # slli x6, x6, 24
-    .word 0x0062ec33  # or x24, x5, x6
     .word 0x0018d293  # srli x5, x17, 1
-    .word 0x0122c2b3  # xor x5, x5, x18
+    .word 0x0112c2b3  # xor x5, x5, x17
     .word 0x23812303  # lw x6, 568(x2)
     .word 0x0062f533  # and x10, x5, x6
-    .word 0x00a94933  # xor x18, x18, x10
+    .word 0x00a8c933  # xor x18, x17, x10
     .word 0x00151313  # slli x6, x10, 1
     .word 0x0068c8b3  # xor x17, x17, x6
     .word 0x0019d293  # srli x5, x19, 1
-    .word 0x0142c2b3  # xor x5, x5, x20
+    .word 0x0132c2b3  # xor x5, x5, x19
     .word 0x23812303  # lw x6, 568(x2)
     .word 0x0062f533  # and x10, x5, x6
-    .word 0x00aa4a33  # xor x20, x20, x10
+    .word 0x00a9ca33  # xor x20, x19, x10
     .word 0x00151313  # slli x6, x10, 1
     .word 0x0069c9b3  # xor x19, x19, x6
     .word 0x001ad293  # srli x5, x21, 1
-    .word 0x0162c2b3  # xor x5, x5, x22
+    .word 0x0152c2b3  # xor x5, x5, x21
     .word 0x23812303  # lw x6, 568(x2)
     .word 0x0062f533  # and x10, x5, x6
-    .word 0x00ab4b33  # xor x22, x22, x10
+    .word 0x00aacb33  # xor x22, x21, x10
     .word 0x00151313  # slli x6, x10, 1
     .word 0x006acab3  # xor x21, x21, x6
     .word 0x001bd293  # srli x5, x23, 1
-    .word 0x0182c2b3  # xor x5, x5, x24
+    .word 0x0172c2b3  # xor x5, x5, x23
     .word 0x23812303  # lw x6, 568(x2)
     .word 0x0062f533  # and x10, x5, x6
-    .word 0x00ac4c33  # xor x24, x24, x10
+    .word 0x00abcc33  # xor x24, x23, x10
     .word 0x00151313  # slli x6, x10, 1
     .word 0x006bcbb3  # xor x23, x23, x6
     .word 0x0028d293  # srli x5, x17, 2
@@ -668,33 +582,29 @@ aes256_expand:
     .word 0x00694ab3  # xor x21, x18, x6
     .word 0x01854533  # xor x10, x10, x24
     .word 0x21812283  # lw x5, 536(x2)
-    .word 0x0182c733  # xor x14, x5, x24
+    .word 0x0182c933  # xor x18, x5, x24
     .word 0x013b4c33  # xor x24, x22, x19
     .word 0x013bc9b3  # xor x19, x23, x19
-    .word 0x015a4933  # xor x18, x20, x21
-    .word 0x01874bb3  # xor x23, x14, x24
+    .word 0x015a4bb3  # xor x23, x20, x21
+    .word 0x01894933  # xor x18, x18, x24
     .word 0x22012283  # lw x5, 544(x2)
     .word 0x0132ca33  # xor x20, x5, x19
     .word 0x013ac9b3  # xor x19, x21, x19
-    .word 0x41800333  # sub x6, x0, x24
-    .word 0xfff30313  # addi x6, x6, -1
-    .word 0x0066cab3  # xor x21, x13, x6
+    .word 0x0186c2b3  # xor x5, x13, x24
+    .word 0xfff2ca93  # xori x21, x5, -1
     .word 0x20812283  # lw x5, 520(x2)
-    .word 0x40a00333  # sub x6, x0, x10
-    .word 0xfff30313  # addi x6, x6, -1
-    .word 0x0062cb33  # xor x22, x5, x6
-    .word 0x01794533  # xor x10, x18, x23
+    .word 0x00a2c2b3  # xor x5, x5, x10
+    .word 0xfff2cb13  # xori x22, x5, -1
+    .word 0x012bc533  # xor x10, x23, x18
     .word 0x0148cc33  # xor x24, x17, x20
     .word 0x20412283  # lw x5, 516(x2)
     .word 0x0142ca33  # xor x20, x5, x20
-    .word 0x0175cbb3  # xor x23, x11, x23
-    .word 0x41800333  # sub x6, x0, x24
-    .word 0xfff30313  # addi x6, x6, -1
-    .word 0x00694933  # xor x18, x18, x6
+    .word 0x0125c933  # xor x18, x11, x18
+    .word 0x018bc2b3  # xor x5, x23, x24
+    .word 0xfff2cb93  # xori x23, x5, -1
     .word 0x20012283  # lw x5, 512(x2)
-    .word 0x40a00333  # sub x6, x0, x10
-    .word 0xfff30313  # addi x6, x6, -1
-    .word 0x0062c533  # xor x10, x5, x6
+    .word 0x00a2c2b3  # xor x5, x5, x10
+    .word 0xfff2c513  # xori x10, x5, -1
     .word 0x019b78b3  # and x17, x22, x25
     .word 0x0014f293  # andi x5, x9, 1
     .word 0x02029263  # bne x5, x0, 36
@@ -749,7 +659,7 @@ aes256_expand:
     .word 0x00229293  # slli x5, x5, 2
     .word 0x002282b3  # add x5, x5, x2
     .word 0x0662a023  # sw x6, 96(x5)
-    .word 0x019bf8b3  # and x17, x23, x25
+    .word 0x019978b3  # and x17, x18, x25
     .word 0x0014f293  # andi x5, x9, 1
     .word 0x02029463  # bne x5, x0, 40
     .word 0x01889f13  # slli x30, x17, 24
@@ -861,7 +771,7 @@ aes256_expand:
     .word 0x00229293  # slli x5, x5, 2
     .word 0x002282b3  # add x5, x5, x2
     .word 0x0662a023  # sw x6, 96(x5)
-    .word 0x019978b3  # and x17, x18, x25
+    .word 0x019bf8b3  # and x17, x23, x25
     .word 0x0014f293  # andi x5, x9, 1
     .word 0x02029463  # bne x5, x0, 40
     .word 0x01889f13  # slli x30, x17, 24
@@ -919,7 +829,7 @@ aes256_expand:
     .word 0x0662a023  # sw x6, 96(x5)
     .word 0x00148493  # addi x9, x9, 1
     .word 0x00d4b293  # sltiu x5, x9, 13
-    .word 0x88029ae3  # bne x5, x0, -1900
+    .word 0x8a0292e3  # bne x5, x0, -1884
     .word 0xfff48493  # addi x9, x9, -1
     # the result
     .word 0x00000513  # addi x10, x0, 0
@@ -936,17 +846,9 @@ aes256_expand:
     .word 0x01c2a423  # sw x28, 8(x5)
     .word 0x00c32e03  # lw x28, 12(x6)
     .word 0x01c2a623  # sw x28, 12(x5)
-    .word 0x01032e03  # lw x28, 16(x6)
-    .word 0x01c2a823  # sw x28, 16(x5)
-    .word 0x01432e03  # lw x28, 20(x6)
-    .word 0x01c2aa23  # sw x28, 20(x5)
-    .word 0x01832e03  # lw x28, 24(x6)
-    .word 0x01c2ac23  # sw x28, 24(x5)
-    .word 0x01c32e03  # lw x28, 28(x6)
-    .word 0x01c2ae23  # sw x28, 28(x5)
-    .word 0x02028293  # addi x5, x5, 32
-    .word 0x02030313  # addi x6, x6, 32
-    .word 0xfa729ce3  # bne x5, x7, -72
+    .word 0x01028293  # addi x5, x5, 16
+    .word 0x01030313  # addi x6, x6, 16
+    .word 0xfc729ce3  # bne x5, x7, -40
     # above the frame
     .word 0x25010293  # addi x5, x2, 592
     # the caller's registers
@@ -989,16 +891,8 @@ aes256_expand:
     .word 0x00012a23  # sw x0, 20(x2)
     .word 0x00012c23  # sw x0, 24(x2)
     .word 0x00012e23  # sw x0, 28(x2)
-    .word 0x02012023  # sw x0, 32(x2)
-    .word 0x02012223  # sw x0, 36(x2)
-    .word 0x02012423  # sw x0, 40(x2)
-    .word 0x02012623  # sw x0, 44(x2)
-    .word 0x02012823  # sw x0, 48(x2)
-    .word 0x02012a23  # sw x0, 52(x2)
-    .word 0x02012c23  # sw x0, 56(x2)
-    .word 0x02012e23  # sw x0, 60(x2)
-    .word 0x04010113  # addi x2, x2, 64
-    .word 0xfa511ee3  # bne x2, x5, -68
+    .word 0x02010113  # addi x2, x2, 32
+    .word 0xfc511ee3  # bne x2, x5, -36
     .cfi_def_cfa 2, 0
     # temporaries, wiped
     .word 0x00000293  # addi x5, x0, 0

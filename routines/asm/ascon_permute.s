@@ -1,4 +1,4 @@
-# ascon_permute: made by factc 1.0.0 function; 304 words, 112 bytes of stack, profile 1
+# ascon_permute: made by factc 1.0.0 function; 284 words, 112 bytes of stack, profile 1
     .option push
     .option norvc
     .option norelax
@@ -67,20 +67,28 @@ ascon_permute:
     .word 0x02812483  # lw x9, 40(x2)
     .word 0x00000693  # addi x13, x0, 0
     .word 0x00000713  # addi x14, x0, 0
-    .word 0x00000793  # addi x15, x0, 0
+    .word 0x00000813  # addi x16, x0, 0
     .word 0x00000993  # addi x19, x0, 0
-    .word 0x00000a93  # addi x21, x0, 0
+    .word 0x00000b13  # addi x22, x0, 0
     .word 0x00000c93  # addi x25, x0, 0
     .word 0x00012a03  # lw x20, 0(x2)
     .word 0x00412503  # lw x10, 4(x2)
-    .word 0x00812883  # lw x17, 8(x2)
-    .word 0x00c12b03  # lw x22, 12(x2)
-    .word 0x01012583  # lw x11, 16(x2)
-    .word 0x01412603  # lw x12, 20(x2)
-    .word 0x01812803  # lw x16, 24(x2)
-    .word 0x01c12b83  # lw x23, 28(x2)
-    .word 0x02012903  # lw x18, 32(x2)
-    .word 0x02412c03  # lw x24, 36(x2)
+    .word 0x00812283  # lw x5, 8(x2)
+    .word 0xfff2c893  # xori x17, x5, -1
+    .word 0x00c12283  # lw x5, 12(x2)
+    .word 0xfff2cb93  # xori x23, x5, -1
+    .word 0x01012283  # lw x5, 16(x2)
+    .word 0xfff2c593  # xori x11, x5, -1
+    .word 0x01412283  # lw x5, 20(x2)
+    .word 0xfff2c613  # xori x12, x5, -1
+    .word 0x01812283  # lw x5, 24(x2)
+    .word 0xfff2c793  # xori x15, x5, -1
+    .word 0x01c12283  # lw x5, 28(x2)
+    .word 0xfff2ca93  # xori x21, x5, -1
+    .word 0x02012283  # lw x5, 32(x2)
+    .word 0xfff2c913  # xori x18, x5, -1
+    .word 0x02412283  # lw x5, 36(x2)
+    .word 0xfff2cc13  # xori x24, x5, -1
     .word 0x00c00293  # addi x5, x0, 12
     .word 0x00c4b313  # sltiu x6, x9, 12
     .word 0x00c00413  # addi x8, x0, 12
@@ -93,69 +101,49 @@ ascon_permute:
     .word 0x406282b3  # sub x5, x5, x6
     .word 0x00c2b313  # sltiu x6, x5, 12
     .word 0x00031463  # bne x6, x0, 8
-    .word 0x2500006f  # jal x0, 592
+    .word 0x2000006f  # jal x0, 512
     .word 0x00028693  # addi x13, x5, 0
     .word 0x0f000293  # addi x5, x0, 240
     .word 0x00f00313  # addi x6, x0, 15
     .word 0x02d30333  # mul x6, x6, x13
     .word 0x40628733  # sub x14, x5, x6
-    .word 0x012a47b3  # xor x15, x20, x18
-    .word 0x01094ab3  # xor x21, x18, x16
+    .word 0x012a4833  # xor x16, x20, x18
+    .word 0x00f94b33  # xor x22, x18, x15
     .word 0x0115c933  # xor x18, x11, x17
-    .word 0x41100333  # sub x6, x0, x17
-    .word 0xfff30313  # addi x6, x6, -1
-    .word 0x01237333  # and x6, x6, x18
-    .word 0x0067c9b3  # xor x19, x15, x6
-    .word 0x41200333  # sub x6, x0, x18
-    .word 0xfff30313  # addi x6, x6, -1
-    .word 0x01037333  # and x6, x6, x16
-    .word 0x0068ca33  # xor x20, x17, x6
-    .word 0x41000333  # sub x6, x0, x16
-    .word 0xfff30313  # addi x6, x6, -1
-    .word 0x01537333  # and x6, x6, x21
-    .word 0x00694cb3  # xor x25, x18, x6
-    .word 0x41500333  # sub x6, x0, x21
-    .word 0xfff30313  # addi x6, x6, -1
-    .word 0x00f37333  # and x6, x6, x15
-    .word 0x00684933  # xor x18, x16, x6
-    .word 0x40f00333  # sub x6, x0, x15
-    .word 0xfff30313  # addi x6, x6, -1
-    .word 0x01137333  # and x6, x6, x17
-    .word 0x006ac7b3  # xor x15, x21, x6
-    .word 0x013a4833  # xor x16, x20, x19
-    .word 0x00f9c8b3  # xor x17, x19, x15
-    .word 0x01994933  # xor x18, x18, x25
-    .word 0x419009b3  # sub x19, x0, x25
-    .word 0xfff98993  # addi x19, x19, -1
-    .word 0x01854ab3  # xor x21, x10, x24
-    .word 0x017c4c33  # xor x24, x24, x23
-    .word 0x016642b3  # xor x5, x12, x22
+    .word 0x0128f2b3  # and x5, x17, x18
+    .word 0x0102c9b3  # xor x19, x5, x16
+    .word 0x00f962b3  # or x5, x18, x15
+    .word 0x0112ccb3  # xor x25, x5, x17
+    .word 0x010b62b3  # or x5, x22, x16
+    .word 0x00f2ca33  # xor x20, x5, x15
+    .word 0x0167f2b3  # and x5, x15, x22
+    .word 0x0122c7b3  # xor x15, x5, x18
+    .word 0xfff84293  # xori x5, x16, -1
+    .word 0x0112e2b3  # or x5, x5, x17
+    .word 0x0162c833  # xor x16, x5, x22
+    .word 0x0109c8b3  # xor x17, x19, x16
+    .word 0x013cc933  # xor x18, x25, x19
+    .word 0x00fa42b3  # xor x5, x20, x15
+    .word 0xfff2c993  # xori x19, x5, -1
+    .word 0x01854b33  # xor x22, x10, x24
+    .word 0x015c4c33  # xor x24, x24, x21
+    .word 0x017642b3  # xor x5, x12, x23
     .word 0x00e2ccb3  # xor x25, x5, x14
-    .word 0x41600333  # sub x6, x0, x22
-    .word 0xfff30313  # addi x6, x6, -1
-    .word 0x01937333  # and x6, x6, x25
-    .word 0x006aca33  # xor x20, x21, x6
-    .word 0x41900333  # sub x6, x0, x25
-    .word 0xfff30313  # addi x6, x6, -1
-    .word 0x01737333  # and x6, x6, x23
-    .word 0x006b4533  # xor x10, x22, x6
-    .word 0x41700333  # sub x6, x0, x23
-    .word 0xfff30313  # addi x6, x6, -1
-    .word 0x01837333  # and x6, x6, x24
-    .word 0x006cccb3  # xor x25, x25, x6
-    .word 0x41800333  # sub x6, x0, x24
-    .word 0xfff30313  # addi x6, x6, -1
-    .word 0x01537333  # and x6, x6, x21
-    .word 0x006bc5b3  # xor x11, x23, x6
-    .word 0x41500333  # sub x6, x0, x21
-    .word 0xfff30313  # addi x6, x6, -1
-    .word 0x01637333  # and x6, x6, x22
-    .word 0x006c4ab3  # xor x21, x24, x6
-    .word 0x01454b33  # xor x22, x10, x20
-    .word 0x015a4bb3  # xor x23, x20, x21
-    .word 0x0195cc33  # xor x24, x11, x25
-    .word 0x41900cb3  # sub x25, x0, x25
-    .word 0xfffc8c93  # addi x25, x25, -1
+    .word 0x019bf2b3  # and x5, x23, x25
+    .word 0x0162ca33  # xor x20, x5, x22
+    .word 0x015ce2b3  # or x5, x25, x21
+    .word 0x0172c533  # xor x10, x5, x23
+    .word 0x016c62b3  # or x5, x24, x22
+    .word 0x0152c5b3  # xor x11, x5, x21
+    .word 0x018af2b3  # and x5, x21, x24
+    .word 0x0192cab3  # xor x21, x5, x25
+    .word 0xfffb4293  # xori x5, x22, -1
+    .word 0x0172e2b3  # or x5, x5, x23
+    .word 0x0182cb33  # xor x22, x5, x24
+    .word 0x016a4bb3  # xor x23, x20, x22
+    .word 0x01454c33  # xor x24, x10, x20
+    .word 0x0155c2b3  # xor x5, x11, x21
+    .word 0xfff2cc93  # xori x25, x5, -1
     .word 0x0138d313  # srli x6, x17, 19
     .word 0x00db9393  # slli x7, x23, 13
     .word 0x00736333  # or x6, x6, x7
@@ -172,85 +160,93 @@ ascon_permute:
     .word 0x00489393  # slli x7, x17, 4
     .word 0x00736333  # or x6, x6, x7
     .word 0x0062c533  # xor x10, x5, x6
-    .word 0x01db5313  # srli x6, x22, 29
-    .word 0x00381393  # slli x7, x16, 3
+    .word 0x01dc5313  # srli x6, x24, 29
+    .word 0x00391393  # slli x7, x18, 3
     .word 0x00736333  # or x6, x6, x7
-    .word 0x006842b3  # xor x5, x16, x6
-    .word 0x007b5313  # srli x6, x22, 7
-    .word 0x01981393  # slli x7, x16, 25
+    .word 0x006942b3  # xor x5, x18, x6
+    .word 0x007c5313  # srli x6, x24, 7
+    .word 0x01991393  # slli x7, x18, 25
     .word 0x00736333  # or x6, x6, x7
     .word 0x0062c8b3  # xor x17, x5, x6
-    .word 0x01d85313  # srli x6, x16, 29
-    .word 0x003b1393  # slli x7, x22, 3
+    .word 0x01d95313  # srli x6, x18, 29
+    .word 0x003c1393  # slli x7, x24, 3
     .word 0x00736333  # or x6, x6, x7
-    .word 0x006b42b3  # xor x5, x22, x6
+    .word 0x006c42b3  # xor x5, x24, x6
+    .word 0x00795313  # srli x6, x18, 7
+    .word 0x019c1393  # slli x7, x24, 25
+    .word 0x00736333  # or x6, x6, x7
+    .word 0x0062cbb3  # xor x23, x5, x6
+    .word 0x0017d313  # srli x6, x15, 1
+    .word 0x01fa9393  # slli x7, x21, 31
+    .word 0x00736333  # or x6, x6, x7
+    .word 0x0067c2b3  # xor x5, x15, x6
+    .word 0x0067d313  # srli x6, x15, 6
+    .word 0x01aa9393  # slli x7, x21, 26
+    .word 0x00736333  # or x6, x6, x7
+    .word 0x0062c5b3  # xor x11, x5, x6
+    .word 0x001ad313  # srli x6, x21, 1
+    .word 0x01f79393  # slli x7, x15, 31
+    .word 0x00736333  # or x6, x6, x7
+    .word 0x006ac2b3  # xor x5, x21, x6
+    .word 0x006ad313  # srli x6, x21, 6
+    .word 0x01a79393  # slli x7, x15, 26
+    .word 0x00736333  # or x6, x6, x7
+    .word 0x0062c633  # xor x12, x5, x6
+    .word 0x00a9d313  # srli x6, x19, 10
+    .word 0x016c9393  # slli x7, x25, 22
+    .word 0x00736333  # or x6, x6, x7
+    .word 0x0069c2b3  # xor x5, x19, x6
+    .word 0x0119d313  # srli x6, x19, 17
+    .word 0x00fc9393  # slli x7, x25, 15
+    .word 0x00736333  # or x6, x6, x7
+    .word 0x0062c7b3  # xor x15, x5, x6
+    .word 0x00acd313  # srli x6, x25, 10
+    .word 0x01699393  # slli x7, x19, 22
+    .word 0x00736333  # or x6, x6, x7
+    .word 0x006cc2b3  # xor x5, x25, x6
+    .word 0x011cd313  # srli x6, x25, 17
+    .word 0x00f99393  # slli x7, x19, 15
+    .word 0x00736333  # or x6, x6, x7
+    .word 0x0062cab3  # xor x21, x5, x6
     .word 0x00785313  # srli x6, x16, 7
     .word 0x019b1393  # slli x7, x22, 25
     .word 0x00736333  # or x6, x6, x7
-    .word 0x0062cb33  # xor x22, x5, x6
-    .word 0x0019d313  # srli x6, x19, 1
-    .word 0x01fc9393  # slli x7, x25, 31
-    .word 0x00736333  # or x6, x6, x7
-    .word 0x0069c2b3  # xor x5, x19, x6
-    .word 0x0069d313  # srli x6, x19, 6
-    .word 0x01ac9393  # slli x7, x25, 26
-    .word 0x00736333  # or x6, x6, x7
-    .word 0x0062c5b3  # xor x11, x5, x6
-    .word 0x001cd313  # srli x6, x25, 1
-    .word 0x01f99393  # slli x7, x19, 31
-    .word 0x00736333  # or x6, x6, x7
-    .word 0x006cc2b3  # xor x5, x25, x6
-    .word 0x006cd313  # srli x6, x25, 6
-    .word 0x01a99393  # slli x7, x19, 26
-    .word 0x00736333  # or x6, x6, x7
-    .word 0x0062c633  # xor x12, x5, x6
-    .word 0x00a95313  # srli x6, x18, 10
-    .word 0x016c1393  # slli x7, x24, 22
-    .word 0x00736333  # or x6, x6, x7
-    .word 0x006942b3  # xor x5, x18, x6
-    .word 0x01195313  # srli x6, x18, 17
-    .word 0x00fc1393  # slli x7, x24, 15
-    .word 0x00736333  # or x6, x6, x7
-    .word 0x0062c833  # xor x16, x5, x6
-    .word 0x00ac5313  # srli x6, x24, 10
-    .word 0x01691393  # slli x7, x18, 22
-    .word 0x00736333  # or x6, x6, x7
-    .word 0x006c42b3  # xor x5, x24, x6
-    .word 0x011c5313  # srli x6, x24, 17
-    .word 0x00f91393  # slli x7, x18, 15
-    .word 0x00736333  # or x6, x6, x7
-    .word 0x0062cbb3  # xor x23, x5, x6
-    .word 0x0077d313  # srli x6, x15, 7
-    .word 0x019a9393  # slli x7, x21, 25
-    .word 0x00736333  # or x6, x6, x7
-    .word 0x0067c2b3  # xor x5, x15, x6
-    .word 0x009ad313  # srli x6, x21, 9
-    .word 0x01779393  # slli x7, x15, 23
+    .word 0x006842b3  # xor x5, x16, x6
+    .word 0x009b5313  # srli x6, x22, 9
+    .word 0x01781393  # slli x7, x16, 23
     .word 0x00736333  # or x6, x6, x7
     .word 0x0062c933  # xor x18, x5, x6
-    .word 0x007ad313  # srli x6, x21, 7
-    .word 0x01979393  # slli x7, x15, 25
+    .word 0x007b5313  # srli x6, x22, 7
+    .word 0x01981393  # slli x7, x16, 25
     .word 0x00736333  # or x6, x6, x7
-    .word 0x006ac2b3  # xor x5, x21, x6
-    .word 0x0097d313  # srli x6, x15, 9
-    .word 0x017a9393  # slli x7, x21, 23
+    .word 0x006b42b3  # xor x5, x22, x6
+    .word 0x00985313  # srli x6, x16, 9
+    .word 0x017b1393  # slli x7, x22, 23
     .word 0x00736333  # or x6, x6, x7
     .word 0x0062cc33  # xor x24, x5, x6
     .word 0x00168693  # addi x13, x13, 1
     .word 0x00c6b293  # sltiu x5, x13, 12
-    .word 0xdc0292e3  # bne x5, x0, -572
+    .word 0xe0029ae3  # bne x5, x0, -492
     .word 0xfff68693  # addi x13, x13, -1
     .word 0x0040006f  # jal x0, 4
     .word 0x01412023  # sw x20, 0(x2)
     .word 0x00a12223  # sw x10, 4(x2)
-    .word 0x01112423  # sw x17, 8(x2)
-    .word 0x01612623  # sw x22, 12(x2)
-    .word 0x00b12823  # sw x11, 16(x2)
-    .word 0x00c12a23  # sw x12, 20(x2)
-    .word 0x01012c23  # sw x16, 24(x2)
-    .word 0x01712e23  # sw x23, 28(x2)
-    .word 0x03212023  # sw x18, 32(x2)
-    .word 0x03812223  # sw x24, 36(x2)
+    .word 0xfff8c293  # xori x5, x17, -1
+    .word 0x00512423  # sw x5, 8(x2)
+    .word 0xfffbc293  # xori x5, x23, -1
+    .word 0x00512623  # sw x5, 12(x2)
+    .word 0xfff5c293  # xori x5, x11, -1
+    .word 0x00512823  # sw x5, 16(x2)
+    .word 0xfff64293  # xori x5, x12, -1
+    .word 0x00512a23  # sw x5, 20(x2)
+    .word 0xfff7c293  # xori x5, x15, -1
+    .word 0x00512c23  # sw x5, 24(x2)
+    .word 0xfffac293  # xori x5, x21, -1
+    .word 0x00512e23  # sw x5, 28(x2)
+    .word 0xfff94293  # xori x5, x18, -1
+    .word 0x02512023  # sw x5, 32(x2)
+    .word 0xfffc4293  # xori x5, x24, -1
+    .word 0x02512223  # sw x5, 36(x2)
     # the result
     .word 0x00000513  # addi x10, x0, 0
     # parameter 0: the array, back
@@ -307,15 +303,7 @@ ascon_permute:
     .word 0x00012223  # sw x0, 4(x2)
     .word 0x00012423  # sw x0, 8(x2)
     .word 0x00012623  # sw x0, 12(x2)
-    .word 0x00012823  # sw x0, 16(x2)
-    .word 0x00012a23  # sw x0, 20(x2)
-    .word 0x00012c23  # sw x0, 24(x2)
-    .word 0x00012e23  # sw x0, 28(x2)
-    .word 0x02012023  # sw x0, 32(x2)
-    .word 0x02012223  # sw x0, 36(x2)
-    .word 0x02012423  # sw x0, 40(x2)
-    .word 0x02012623  # sw x0, 44(x2)
-    .word 0x03010113  # addi x2, x2, 48
+    .word 0x01010113  # addi x2, x2, 16
     .word 0x00012023  # sw x0, 0(x2)
     .word 0x00012223  # sw x0, 4(x2)
     .word 0x00012423  # sw x0, 8(x2)
@@ -324,16 +312,8 @@ ascon_permute:
     .word 0x00012a23  # sw x0, 20(x2)
     .word 0x00012c23  # sw x0, 24(x2)
     .word 0x00012e23  # sw x0, 28(x2)
-    .word 0x02012023  # sw x0, 32(x2)
-    .word 0x02012223  # sw x0, 36(x2)
-    .word 0x02012423  # sw x0, 40(x2)
-    .word 0x02012623  # sw x0, 44(x2)
-    .word 0x02012823  # sw x0, 48(x2)
-    .word 0x02012a23  # sw x0, 52(x2)
-    .word 0x02012c23  # sw x0, 56(x2)
-    .word 0x02012e23  # sw x0, 60(x2)
-    .word 0x04010113  # addi x2, x2, 64
-    .word 0xfa511ee3  # bne x2, x5, -68
+    .word 0x02010113  # addi x2, x2, 32
+    .word 0xfc511ee3  # bne x2, x5, -36
     .cfi_def_cfa 2, 0
     # temporaries, wiped
     .word 0x00000293  # addi x5, x0, 0

@@ -1,4 +1,4 @@
-# compare_32: made by factc 1.0.0 function; 346 words, 96 bytes of stack, profile 1
+# compare_32: made by factc 1.0.0 function; 159 words, 96 bytes of stack, profile 1
     .option push
     .option norvc
     .option norelax
@@ -25,20 +25,14 @@ compare_32:
     .word 0x00050293  # addi x5, x10, 0
     .word 0x00010313  # addi x6, x2, 0
     .word 0x0032fe13  # andi x28, x5, 3
-    .word 0x020e0e63  # beq x28, x0, 60
+    .word 0x020e0263  # beq x28, x0, 36
     .word 0x02000393  # addi x7, x0, 32
     .word 0x005383b3  # add x7, x7, x5
     .word 0x0002ce03  # lbu x28, 0(x5)
     .word 0x01c30023  # sb x28, 0(x6)
-    .word 0x0012ce03  # lbu x28, 1(x5)
-    .word 0x01c300a3  # sb x28, 1(x6)
-    .word 0x0022ce03  # lbu x28, 2(x5)
-    .word 0x01c30123  # sb x28, 2(x6)
-    .word 0x0032ce03  # lbu x28, 3(x5)
-    .word 0x01c301a3  # sb x28, 3(x6)
-    .word 0x00428293  # addi x5, x5, 4
-    .word 0x00430313  # addi x6, x6, 4
-    .word 0xfc729ce3  # bne x5, x7, -40
+    .word 0x00128293  # addi x5, x5, 1
+    .word 0x00130313  # addi x6, x6, 1
+    .word 0xfe7298e3  # bne x5, x7, -16
     .word 0x0440006f  # jal x0, 68
     .word 0x0002ae03  # lw x28, 0(x5)
     .word 0x01c32023  # sw x28, 0(x6)
@@ -60,20 +54,14 @@ compare_32:
     .word 0x00058293  # addi x5, x11, 0
     .word 0x02010313  # addi x6, x2, 32
     .word 0x0032fe13  # andi x28, x5, 3
-    .word 0x020e0e63  # beq x28, x0, 60
+    .word 0x020e0263  # beq x28, x0, 36
     .word 0x02000393  # addi x7, x0, 32
     .word 0x005383b3  # add x7, x7, x5
     .word 0x0002ce03  # lbu x28, 0(x5)
     .word 0x01c30023  # sb x28, 0(x6)
-    .word 0x0012ce03  # lbu x28, 1(x5)
-    .word 0x01c300a3  # sb x28, 1(x6)
-    .word 0x0022ce03  # lbu x28, 2(x5)
-    .word 0x01c30123  # sb x28, 2(x6)
-    .word 0x0032ce03  # lbu x28, 3(x5)
-    .word 0x01c301a3  # sb x28, 3(x6)
-    .word 0x00428293  # addi x5, x5, 4
-    .word 0x00430313  # addi x6, x6, 4
-    .word 0xfc729ce3  # bne x5, x7, -40
+    .word 0x00128293  # addi x5, x5, 1
+    .word 0x00130313  # addi x6, x6, 1
+    .word 0xfe7298e3  # bne x5, x7, -16
     .word 0x0440006f  # jal x0, 68
     .word 0x0002ae03  # lw x28, 0(x5)
     .word 0x01c32023  # sw x28, 0(x6)
@@ -92,230 +80,72 @@ compare_32:
     .word 0x01c2ae03  # lw x28, 28(x5)
     .word 0x01c32e23  # sw x28, 28(x6)
     # the body
-    .word 0x01f14503  # lbu x10, 31(x2)
-    .word 0x03f14583  # lbu x11, 63(x2)
-    .word 0x40b502b3  # sub x5, x10, x11
-    .word 0x01f2d413  # srli x8, x5, 31
-    .word 0x00b544b3  # xor x9, x10, x11
-    .word 0x01e14503  # lbu x10, 30(x2)
-    .word 0x03e14583  # lbu x11, 62(x2)
-    .word 0x40b502b3  # sub x5, x10, x11
-    .word 0x408282b3  # sub x5, x5, x8
-    .word 0x01f2d413  # srli x8, x5, 31
-    .word 0x00b54333  # xor x6, x10, x11
-    .word 0x0064e4b3  # or x9, x9, x6
-    .word 0x01d14503  # lbu x10, 29(x2)
-    .word 0x03d14583  # lbu x11, 61(x2)
-    .word 0x40b502b3  # sub x5, x10, x11
-    .word 0x408282b3  # sub x5, x5, x8
-    .word 0x01f2d413  # srli x8, x5, 31
-    .word 0x00b54333  # xor x6, x10, x11
-    .word 0x0064e4b3  # or x9, x9, x6
-    .word 0x01c14503  # lbu x10, 28(x2)
-    .word 0x03c14583  # lbu x11, 60(x2)
-    .word 0x40b502b3  # sub x5, x10, x11
-    .word 0x408282b3  # sub x5, x5, x8
-    .word 0x01f2d413  # srli x8, x5, 31
-    .word 0x00b54333  # xor x6, x10, x11
-    .word 0x0064e4b3  # or x9, x9, x6
-    .word 0x01b14503  # lbu x10, 27(x2)
-    .word 0x03b14583  # lbu x11, 59(x2)
-    .word 0x40b502b3  # sub x5, x10, x11
-    .word 0x408282b3  # sub x5, x5, x8
-    .word 0x01f2d413  # srli x8, x5, 31
-    .word 0x00b54333  # xor x6, x10, x11
-    .word 0x0064e4b3  # or x9, x9, x6
-    .word 0x01a14503  # lbu x10, 26(x2)
-    .word 0x03a14583  # lbu x11, 58(x2)
-    .word 0x40b502b3  # sub x5, x10, x11
-    .word 0x408282b3  # sub x5, x5, x8
-    .word 0x01f2d413  # srli x8, x5, 31
-    .word 0x00b54333  # xor x6, x10, x11
-    .word 0x0064e4b3  # or x9, x9, x6
-    .word 0x01914503  # lbu x10, 25(x2)
-    .word 0x03914583  # lbu x11, 57(x2)
-    .word 0x40b502b3  # sub x5, x10, x11
-    .word 0x408282b3  # sub x5, x5, x8
-    .word 0x01f2d413  # srli x8, x5, 31
-    .word 0x00b54333  # xor x6, x10, x11
-    .word 0x0064e4b3  # or x9, x9, x6
-    .word 0x01814503  # lbu x10, 24(x2)
-    .word 0x03814583  # lbu x11, 56(x2)
-    .word 0x40b502b3  # sub x5, x10, x11
-    .word 0x408282b3  # sub x5, x5, x8
-    .word 0x01f2d413  # srli x8, x5, 31
-    .word 0x00b54333  # xor x6, x10, x11
-    .word 0x0064e4b3  # or x9, x9, x6
-    .word 0x01714503  # lbu x10, 23(x2)
-    .word 0x03714583  # lbu x11, 55(x2)
-    .word 0x40b502b3  # sub x5, x10, x11
-    .word 0x408282b3  # sub x5, x5, x8
-    .word 0x01f2d413  # srli x8, x5, 31
-    .word 0x00b54333  # xor x6, x10, x11
-    .word 0x0064e4b3  # or x9, x9, x6
-    .word 0x01614503  # lbu x10, 22(x2)
-    .word 0x03614583  # lbu x11, 54(x2)
-    .word 0x40b502b3  # sub x5, x10, x11
-    .word 0x408282b3  # sub x5, x5, x8
-    .word 0x01f2d413  # srli x8, x5, 31
-    .word 0x00b54333  # xor x6, x10, x11
-    .word 0x0064e4b3  # or x9, x9, x6
-    .word 0x01514503  # lbu x10, 21(x2)
-    .word 0x03514583  # lbu x11, 53(x2)
-    .word 0x40b502b3  # sub x5, x10, x11
-    .word 0x408282b3  # sub x5, x5, x8
-    .word 0x01f2d413  # srli x8, x5, 31
-    .word 0x00b54333  # xor x6, x10, x11
-    .word 0x0064e4b3  # or x9, x9, x6
-    .word 0x01414503  # lbu x10, 20(x2)
-    .word 0x03414583  # lbu x11, 52(x2)
-    .word 0x40b502b3  # sub x5, x10, x11
-    .word 0x408282b3  # sub x5, x5, x8
-    .word 0x01f2d413  # srli x8, x5, 31
-    .word 0x00b54333  # xor x6, x10, x11
-    .word 0x0064e4b3  # or x9, x9, x6
-    .word 0x01314503  # lbu x10, 19(x2)
-    .word 0x03314583  # lbu x11, 51(x2)
-    .word 0x40b502b3  # sub x5, x10, x11
-    .word 0x408282b3  # sub x5, x5, x8
-    .word 0x01f2d413  # srli x8, x5, 31
-    .word 0x00b54333  # xor x6, x10, x11
-    .word 0x0064e4b3  # or x9, x9, x6
-    .word 0x01214503  # lbu x10, 18(x2)
-    .word 0x03214583  # lbu x11, 50(x2)
-    .word 0x40b502b3  # sub x5, x10, x11
-    .word 0x408282b3  # sub x5, x5, x8
-    .word 0x01f2d413  # srli x8, x5, 31
-    .word 0x00b54333  # xor x6, x10, x11
-    .word 0x0064e4b3  # or x9, x9, x6
-    .word 0x01114503  # lbu x10, 17(x2)
-    .word 0x03114583  # lbu x11, 49(x2)
-    .word 0x40b502b3  # sub x5, x10, x11
-    .word 0x408282b3  # sub x5, x5, x8
-    .word 0x01f2d413  # srli x8, x5, 31
-    .word 0x00b54333  # xor x6, x10, x11
-    .word 0x0064e4b3  # or x9, x9, x6
-    .word 0x01014503  # lbu x10, 16(x2)
-    .word 0x03014583  # lbu x11, 48(x2)
-    .word 0x40b502b3  # sub x5, x10, x11
-    .word 0x408282b3  # sub x5, x5, x8
-    .word 0x01f2d413  # srli x8, x5, 31
-    .word 0x00b54333  # xor x6, x10, x11
-    .word 0x0064e4b3  # or x9, x9, x6
-    .word 0x00f14503  # lbu x10, 15(x2)
-    .word 0x02f14583  # lbu x11, 47(x2)
-    .word 0x40b502b3  # sub x5, x10, x11
-    .word 0x408282b3  # sub x5, x5, x8
-    .word 0x01f2d413  # srli x8, x5, 31
-    .word 0x00b54333  # xor x6, x10, x11
-    .word 0x0064e4b3  # or x9, x9, x6
-    .word 0x00e14503  # lbu x10, 14(x2)
-    .word 0x02e14583  # lbu x11, 46(x2)
-    .word 0x40b502b3  # sub x5, x10, x11
-    .word 0x408282b3  # sub x5, x5, x8
-    .word 0x01f2d413  # srli x8, x5, 31
-    .word 0x00b54333  # xor x6, x10, x11
-    .word 0x0064e4b3  # or x9, x9, x6
-    .word 0x00d14503  # lbu x10, 13(x2)
-    .word 0x02d14583  # lbu x11, 45(x2)
-    .word 0x40b502b3  # sub x5, x10, x11
-    .word 0x408282b3  # sub x5, x5, x8
-    .word 0x01f2d413  # srli x8, x5, 31
-    .word 0x00b54333  # xor x6, x10, x11
-    .word 0x0064e4b3  # or x9, x9, x6
-    .word 0x00c14503  # lbu x10, 12(x2)
-    .word 0x02c14583  # lbu x11, 44(x2)
-    .word 0x40b502b3  # sub x5, x10, x11
-    .word 0x408282b3  # sub x5, x5, x8
-    .word 0x01f2d413  # srli x8, x5, 31
-    .word 0x00b54333  # xor x6, x10, x11
-    .word 0x0064e4b3  # or x9, x9, x6
-    .word 0x00b14503  # lbu x10, 11(x2)
-    .word 0x02b14583  # lbu x11, 43(x2)
-    .word 0x40b502b3  # sub x5, x10, x11
-    .word 0x408282b3  # sub x5, x5, x8
-    .word 0x01f2d413  # srli x8, x5, 31
-    .word 0x00b54333  # xor x6, x10, x11
-    .word 0x0064e4b3  # or x9, x9, x6
-    .word 0x00a14503  # lbu x10, 10(x2)
-    .word 0x02a14583  # lbu x11, 42(x2)
-    .word 0x40b502b3  # sub x5, x10, x11
-    .word 0x408282b3  # sub x5, x5, x8
-    .word 0x01f2d413  # srli x8, x5, 31
-    .word 0x00b54333  # xor x6, x10, x11
-    .word 0x0064e4b3  # or x9, x9, x6
-    .word 0x00914503  # lbu x10, 9(x2)
-    .word 0x02914583  # lbu x11, 41(x2)
-    .word 0x40b502b3  # sub x5, x10, x11
-    .word 0x408282b3  # sub x5, x5, x8
-    .word 0x01f2d413  # srli x8, x5, 31
-    .word 0x00b54333  # xor x6, x10, x11
-    .word 0x0064e4b3  # or x9, x9, x6
-    .word 0x00814503  # lbu x10, 8(x2)
-    .word 0x02814583  # lbu x11, 40(x2)
-    .word 0x40b502b3  # sub x5, x10, x11
-    .word 0x408282b3  # sub x5, x5, x8
-    .word 0x01f2d413  # srli x8, x5, 31
-    .word 0x00b54333  # xor x6, x10, x11
-    .word 0x0064e4b3  # or x9, x9, x6
-    .word 0x00714503  # lbu x10, 7(x2)
-    .word 0x02714583  # lbu x11, 39(x2)
-    .word 0x40b502b3  # sub x5, x10, x11
-    .word 0x408282b3  # sub x5, x5, x8
-    .word 0x01f2d413  # srli x8, x5, 31
-    .word 0x00b54333  # xor x6, x10, x11
-    .word 0x0064e4b3  # or x9, x9, x6
-    .word 0x00614503  # lbu x10, 6(x2)
-    .word 0x02614583  # lbu x11, 38(x2)
-    .word 0x40b502b3  # sub x5, x10, x11
-    .word 0x408282b3  # sub x5, x5, x8
-    .word 0x01f2d413  # srli x8, x5, 31
-    .word 0x00b54333  # xor x6, x10, x11
-    .word 0x0064e4b3  # or x9, x9, x6
-    .word 0x00514503  # lbu x10, 5(x2)
-    .word 0x02514583  # lbu x11, 37(x2)
-    .word 0x40b502b3  # sub x5, x10, x11
-    .word 0x408282b3  # sub x5, x5, x8
-    .word 0x01f2d413  # srli x8, x5, 31
-    .word 0x00b54333  # xor x6, x10, x11
-    .word 0x0064e4b3  # or x9, x9, x6
-    .word 0x00414503  # lbu x10, 4(x2)
-    .word 0x02414583  # lbu x11, 36(x2)
-    .word 0x40b502b3  # sub x5, x10, x11
-    .word 0x408282b3  # sub x5, x5, x8
-    .word 0x01f2d413  # srli x8, x5, 31
-    .word 0x00b54333  # xor x6, x10, x11
-    .word 0x0064e4b3  # or x9, x9, x6
-    .word 0x00314503  # lbu x10, 3(x2)
-    .word 0x02314583  # lbu x11, 35(x2)
-    .word 0x40b502b3  # sub x5, x10, x11
-    .word 0x408282b3  # sub x5, x5, x8
-    .word 0x01f2d413  # srli x8, x5, 31
-    .word 0x00b54333  # xor x6, x10, x11
-    .word 0x0064e4b3  # or x9, x9, x6
-    .word 0x00214503  # lbu x10, 2(x2)
-    .word 0x02214583  # lbu x11, 34(x2)
-    .word 0x40b502b3  # sub x5, x10, x11
-    .word 0x408282b3  # sub x5, x5, x8
-    .word 0x01f2d413  # srli x8, x5, 31
-    .word 0x00b54333  # xor x6, x10, x11
-    .word 0x0064e4b3  # or x9, x9, x6
-    .word 0x00114503  # lbu x10, 1(x2)
-    .word 0x02114583  # lbu x11, 33(x2)
-    .word 0x40b502b3  # sub x5, x10, x11
-    .word 0x408282b3  # sub x5, x5, x8
-    .word 0x01f2d413  # srli x8, x5, 31
-    .word 0x00b54333  # xor x6, x10, x11
-    .word 0x0064e4b3  # or x9, x9, x6
-    .word 0x00014503  # lbu x10, 0(x2)
-    .word 0x02014583  # lbu x11, 32(x2)
-    .word 0x40b502b3  # sub x5, x10, x11
-    .word 0x408282b3  # sub x5, x5, x8
-    .word 0x01f2d413  # srli x8, x5, 31
-    .word 0x00b54333  # xor x6, x10, x11
-    .word 0x0064e4b3  # or x9, x9, x6
-    .word 0x00903533  # sltu x10, x0, x9
-    .word 0x00a502b3  # add x5, x10, x10
+    .word 0x00000513  # addi x10, x0, 0
+    .word 0x00000593  # addi x11, x0, 0
+    .word 0x00000613  # addi x12, x0, 0
+    .word 0x002586b3  # add x13, x11, x2
+    .word 0x00000413  # addi x8, x0, 0
+    .word 0x00000493  # addi x9, x0, 0
+    .word 0x00000513  # addi x10, x0, 0
+    .word 0x01800293  # addi x5, x0, 24
+    .word 0x00351313  # slli x6, x10, 3
+    .word 0x406282b3  # sub x5, x5, x6
+    .word 0x0182f593  # andi x11, x5, 24
+    .word 0x002586b3  # add x13, x11, x2
+    .word 0x0076c283  # lbu x5, 7(x13)
+    .word 0x0276c303  # lbu x6, 39(x13)
+    .word 0x406282b3  # sub x5, x5, x6
+    .word 0x40828633  # sub x12, x5, x8
+    .word 0x01f65413  # srli x8, x12, 31
+    .word 0x00c4e4b3  # or x9, x9, x12
+    .word 0x0066c283  # lbu x5, 6(x13)
+    .word 0x0266c303  # lbu x6, 38(x13)
+    .word 0x406282b3  # sub x5, x5, x6
+    .word 0x40828633  # sub x12, x5, x8
+    .word 0x01f65413  # srli x8, x12, 31
+    .word 0x00c4e4b3  # or x9, x9, x12
+    .word 0x0056c283  # lbu x5, 5(x13)
+    .word 0x0256c303  # lbu x6, 37(x13)
+    .word 0x406282b3  # sub x5, x5, x6
+    .word 0x40828633  # sub x12, x5, x8
+    .word 0x01f65413  # srli x8, x12, 31
+    .word 0x00c4e4b3  # or x9, x9, x12
+    .word 0x0046c283  # lbu x5, 4(x13)
+    .word 0x0246c303  # lbu x6, 36(x13)
+    .word 0x406282b3  # sub x5, x5, x6
+    .word 0x40828633  # sub x12, x5, x8
+    .word 0x01f65413  # srli x8, x12, 31
+    .word 0x00c4e4b3  # or x9, x9, x12
+    .word 0x0036c283  # lbu x5, 3(x13)
+    .word 0x0236c303  # lbu x6, 35(x13)
+    .word 0x406282b3  # sub x5, x5, x6
+    .word 0x40828633  # sub x12, x5, x8
+    .word 0x01f65413  # srli x8, x12, 31
+    .word 0x00c4e4b3  # or x9, x9, x12
+    .word 0x0026c283  # lbu x5, 2(x13)
+    .word 0x0226c303  # lbu x6, 34(x13)
+    .word 0x406282b3  # sub x5, x5, x6
+    .word 0x40828633  # sub x12, x5, x8
+    .word 0x01f65413  # srli x8, x12, 31
+    .word 0x00c4e4b3  # or x9, x9, x12
+    .word 0x0016c283  # lbu x5, 1(x13)
+    .word 0x0216c303  # lbu x6, 33(x13)
+    .word 0x406282b3  # sub x5, x5, x6
+    .word 0x40828633  # sub x12, x5, x8
+    .word 0x01f65413  # srli x8, x12, 31
+    .word 0x00c4e4b3  # or x9, x9, x12
+    .word 0x0006c283  # lbu x5, 0(x13)
+    .word 0x0206c303  # lbu x6, 32(x13)
+    .word 0x406282b3  # sub x5, x5, x6
+    .word 0x40828633  # sub x12, x5, x8
+    .word 0x01f65413  # srli x8, x12, 31
+    .word 0x00c4e4b3  # or x9, x9, x12
+    .word 0x00150513  # addi x10, x10, 1
+    .word 0x00453293  # sltiu x5, x10, 4
+    .word 0xf20292e3  # bne x5, x0, -220
+    .word 0xfff50513  # addi x10, x10, -1
+    .word 0x00903633  # sltu x12, x0, x9
+    .word 0x00c602b3  # add x5, x12, x12
     .word 0x408282b3  # sub x5, x5, x8
     .word 0x0ff2f293  # andi x5, x5, 255
     .word 0x04512023  # sw x5, 64(x2)
@@ -341,24 +171,7 @@ compare_32:
     .word 0x00012c23  # sw x0, 24(x2)
     .word 0x00012e23  # sw x0, 28(x2)
     .word 0x02010113  # addi x2, x2, 32
-    .word 0x00012023  # sw x0, 0(x2)
-    .word 0x00012223  # sw x0, 4(x2)
-    .word 0x00012423  # sw x0, 8(x2)
-    .word 0x00012623  # sw x0, 12(x2)
-    .word 0x00012823  # sw x0, 16(x2)
-    .word 0x00012a23  # sw x0, 20(x2)
-    .word 0x00012c23  # sw x0, 24(x2)
-    .word 0x00012e23  # sw x0, 28(x2)
-    .word 0x02012023  # sw x0, 32(x2)
-    .word 0x02012223  # sw x0, 36(x2)
-    .word 0x02012423  # sw x0, 40(x2)
-    .word 0x02012623  # sw x0, 44(x2)
-    .word 0x02012823  # sw x0, 48(x2)
-    .word 0x02012a23  # sw x0, 52(x2)
-    .word 0x02012c23  # sw x0, 56(x2)
-    .word 0x02012e23  # sw x0, 60(x2)
-    .word 0x04010113  # addi x2, x2, 64
-    .word 0xfa511ee3  # bne x2, x5, -68
+    .word 0xfc511ee3  # bne x2, x5, -36
     .cfi_def_cfa 2, 0
     # temporaries, wiped
     .word 0x00000293  # addi x5, x0, 0

@@ -1,4 +1,4 @@
-# divide_32: made by factc 1.0.0 function; 437 words, 64 bytes of stack, profile 1
+# divide_32: made by factc 1.0.0 function; 103 words, 64 bytes of stack, profile 1
     .option push
     .option norvc
     .option norelax
@@ -31,386 +31,60 @@ divide_32:
     # the body
     .word 0x00012403  # lw x8, 0(x2)
     .word 0x00412483  # lw x9, 4(x2)
-    .word 0x01f45513  # srli x10, x8, 31
-    .word 0x00953633  # sltu x12, x10, x9
-    .word 0x00163613  # sltiu x12, x12, 1
-    .word 0x40c003b3  # sub x7, x0, x12
-    .word 0x0074f333  # and x6, x9, x7
-    .word 0x40650533  # sub x10, x10, x6
-    .word 0x00141293  # slli x5, x8, 1
-    .word 0x00c2e5b3  # or x11, x5, x12
-    .word 0x01f55613  # srli x12, x10, 31
+    .word 0x00000613  # addi x12, x0, 0
+    .word 0x00000693  # addi x13, x0, 0
+    .word 0x00000713  # addi x14, x0, 0
+    .word 0x00000513  # addi x10, x0, 0
+    .word 0x00040593  # addi x11, x8, 0
+    .word 0x00000613  # addi x12, x0, 0
+    .word 0x01f55713  # srli x14, x10, 31
     .word 0x00151293  # slli x5, x10, 1
     .word 0x01f5d313  # srli x6, x11, 31
     .word 0x0062e533  # or x10, x5, x6
-    .word 0x00953333  # sltu x6, x10, x9
-    .word 0x00133313  # sltiu x6, x6, 1
-    .word 0x00666633  # or x12, x12, x6
-    .word 0x40c003b3  # sub x7, x0, x12
-    .word 0x0074f333  # and x6, x9, x7
+    .word 0x009536b3  # sltu x13, x10, x9
+    .word 0x00d732b3  # sltu x5, x14, x13
+    .word 0xfff28713  # addi x14, x5, -1
+    .word 0x00e4f333  # and x6, x9, x14
     .word 0x40650533  # sub x10, x10, x6
     .word 0x00159293  # slli x5, x11, 1
-    .word 0x00c2e5b3  # or x11, x5, x12
-    .word 0x01f55613  # srli x12, x10, 31
+    .word 0x40e285b3  # sub x11, x5, x14
+    .word 0x01f55713  # srli x14, x10, 31
     .word 0x00151293  # slli x5, x10, 1
     .word 0x01f5d313  # srli x6, x11, 31
     .word 0x0062e533  # or x10, x5, x6
-    .word 0x00953333  # sltu x6, x10, x9
-    .word 0x00133313  # sltiu x6, x6, 1
-    .word 0x00666633  # or x12, x12, x6
-    .word 0x40c003b3  # sub x7, x0, x12
-    .word 0x0074f333  # and x6, x9, x7
+    .word 0x009536b3  # sltu x13, x10, x9
+    .word 0x00d732b3  # sltu x5, x14, x13
+    .word 0xfff28713  # addi x14, x5, -1
+    .word 0x00e4f333  # and x6, x9, x14
     .word 0x40650533  # sub x10, x10, x6
     .word 0x00159293  # slli x5, x11, 1
-    .word 0x00c2e5b3  # or x11, x5, x12
-    .word 0x01f55613  # srli x12, x10, 31
+    .word 0x40e285b3  # sub x11, x5, x14
+    .word 0x01f55713  # srli x14, x10, 31
     .word 0x00151293  # slli x5, x10, 1
     .word 0x01f5d313  # srli x6, x11, 31
     .word 0x0062e533  # or x10, x5, x6
-    .word 0x00953333  # sltu x6, x10, x9
-    .word 0x00133313  # sltiu x6, x6, 1
-    .word 0x00666633  # or x12, x12, x6
-    .word 0x40c003b3  # sub x7, x0, x12
-    .word 0x0074f333  # and x6, x9, x7
+    .word 0x009536b3  # sltu x13, x10, x9
+    .word 0x00d732b3  # sltu x5, x14, x13
+    .word 0xfff28713  # addi x14, x5, -1
+    .word 0x00e4f333  # and x6, x9, x14
     .word 0x40650533  # sub x10, x10, x6
     .word 0x00159293  # slli x5, x11, 1
-    .word 0x00c2e5b3  # or x11, x5, x12
-    .word 0x01f55613  # srli x12, x10, 31
+    .word 0x40e285b3  # sub x11, x5, x14
+    .word 0x01f55713  # srli x14, x10, 31
     .word 0x00151293  # slli x5, x10, 1
     .word 0x01f5d313  # srli x6, x11, 31
     .word 0x0062e533  # or x10, x5, x6
-    .word 0x00953333  # sltu x6, x10, x9
-    .word 0x00133313  # sltiu x6, x6, 1
-    .word 0x00666633  # or x12, x12, x6
-    .word 0x40c003b3  # sub x7, x0, x12
-    .word 0x0074f333  # and x6, x9, x7
+    .word 0x009536b3  # sltu x13, x10, x9
+    .word 0x00d732b3  # sltu x5, x14, x13
+    .word 0xfff28713  # addi x14, x5, -1
+    .word 0x00e4f333  # and x6, x9, x14
     .word 0x40650533  # sub x10, x10, x6
     .word 0x00159293  # slli x5, x11, 1
-    .word 0x00c2e5b3  # or x11, x5, x12
-    .word 0x01f55613  # srli x12, x10, 31
-    .word 0x00151293  # slli x5, x10, 1
-    .word 0x01f5d313  # srli x6, x11, 31
-    .word 0x0062e533  # or x10, x5, x6
-    .word 0x00953333  # sltu x6, x10, x9
-    .word 0x00133313  # sltiu x6, x6, 1
-    .word 0x00666633  # or x12, x12, x6
-    .word 0x40c003b3  # sub x7, x0, x12
-    .word 0x0074f333  # and x6, x9, x7
-    .word 0x40650533  # sub x10, x10, x6
-    .word 0x00159293  # slli x5, x11, 1
-    .word 0x00c2e5b3  # or x11, x5, x12
-    .word 0x01f55613  # srli x12, x10, 31
-    .word 0x00151293  # slli x5, x10, 1
-    .word 0x01f5d313  # srli x6, x11, 31
-    .word 0x0062e533  # or x10, x5, x6
-    .word 0x00953333  # sltu x6, x10, x9
-    .word 0x00133313  # sltiu x6, x6, 1
-    .word 0x00666633  # or x12, x12, x6
-    .word 0x40c003b3  # sub x7, x0, x12
-    .word 0x0074f333  # and x6, x9, x7
-    .word 0x40650533  # sub x10, x10, x6
-    .word 0x00159293  # slli x5, x11, 1
-    .word 0x00c2e5b3  # or x11, x5, x12
-    .word 0x01f55613  # srli x12, x10, 31
-    .word 0x00151293  # slli x5, x10, 1
-    .word 0x01f5d313  # srli x6, x11, 31
-    .word 0x0062e533  # or x10, x5, x6
-    .word 0x00953333  # sltu x6, x10, x9
-    .word 0x00133313  # sltiu x6, x6, 1
-    .word 0x00666633  # or x12, x12, x6
-    .word 0x40c003b3  # sub x7, x0, x12
-    .word 0x0074f333  # and x6, x9, x7
-    .word 0x40650533  # sub x10, x10, x6
-    .word 0x00159293  # slli x5, x11, 1
-    .word 0x00c2e5b3  # or x11, x5, x12
-    .word 0x01f55613  # srli x12, x10, 31
-    .word 0x00151293  # slli x5, x10, 1
-    .word 0x01f5d313  # srli x6, x11, 31
-    .word 0x0062e533  # or x10, x5, x6
-    .word 0x00953333  # sltu x6, x10, x9
-    .word 0x00133313  # sltiu x6, x6, 1
-    .word 0x00666633  # or x12, x12, x6
-    .word 0x40c003b3  # sub x7, x0, x12
-    .word 0x0074f333  # and x6, x9, x7
-    .word 0x40650533  # sub x10, x10, x6
-    .word 0x00159293  # slli x5, x11, 1
-    .word 0x00c2e5b3  # or x11, x5, x12
-    .word 0x01f55613  # srli x12, x10, 31
-    .word 0x00151293  # slli x5, x10, 1
-    .word 0x01f5d313  # srli x6, x11, 31
-    .word 0x0062e533  # or x10, x5, x6
-    .word 0x00953333  # sltu x6, x10, x9
-    .word 0x00133313  # sltiu x6, x6, 1
-    .word 0x00666633  # or x12, x12, x6
-    .word 0x40c003b3  # sub x7, x0, x12
-    .word 0x0074f333  # and x6, x9, x7
-    .word 0x40650533  # sub x10, x10, x6
-    .word 0x00159293  # slli x5, x11, 1
-    .word 0x00c2e5b3  # or x11, x5, x12
-    .word 0x01f55613  # srli x12, x10, 31
-    .word 0x00151293  # slli x5, x10, 1
-    .word 0x01f5d313  # srli x6, x11, 31
-    .word 0x0062e533  # or x10, x5, x6
-    .word 0x00953333  # sltu x6, x10, x9
-    .word 0x00133313  # sltiu x6, x6, 1
-    .word 0x00666633  # or x12, x12, x6
-    .word 0x40c003b3  # sub x7, x0, x12
-    .word 0x0074f333  # and x6, x9, x7
-    .word 0x40650533  # sub x10, x10, x6
-    .word 0x00159293  # slli x5, x11, 1
-    .word 0x00c2e5b3  # or x11, x5, x12
-    .word 0x01f55613  # srli x12, x10, 31
-    .word 0x00151293  # slli x5, x10, 1
-    .word 0x01f5d313  # srli x6, x11, 31
-    .word 0x0062e533  # or x10, x5, x6
-    .word 0x00953333  # sltu x6, x10, x9
-    .word 0x00133313  # sltiu x6, x6, 1
-    .word 0x00666633  # or x12, x12, x6
-    .word 0x40c003b3  # sub x7, x0, x12
-    .word 0x0074f333  # and x6, x9, x7
-    .word 0x40650533  # sub x10, x10, x6
-    .word 0x00159293  # slli x5, x11, 1
-    .word 0x00c2e5b3  # or x11, x5, x12
-    .word 0x01f55613  # srli x12, x10, 31
-    .word 0x00151293  # slli x5, x10, 1
-    .word 0x01f5d313  # srli x6, x11, 31
-    .word 0x0062e533  # or x10, x5, x6
-    .word 0x00953333  # sltu x6, x10, x9
-    .word 0x00133313  # sltiu x6, x6, 1
-    .word 0x00666633  # or x12, x12, x6
-    .word 0x40c003b3  # sub x7, x0, x12
-    .word 0x0074f333  # and x6, x9, x7
-    .word 0x40650533  # sub x10, x10, x6
-    .word 0x00159293  # slli x5, x11, 1
-    .word 0x00c2e5b3  # or x11, x5, x12
-    .word 0x01f55613  # srli x12, x10, 31
-    .word 0x00151293  # slli x5, x10, 1
-    .word 0x01f5d313  # srli x6, x11, 31
-    .word 0x0062e533  # or x10, x5, x6
-    .word 0x00953333  # sltu x6, x10, x9
-    .word 0x00133313  # sltiu x6, x6, 1
-    .word 0x00666633  # or x12, x12, x6
-    .word 0x40c003b3  # sub x7, x0, x12
-    .word 0x0074f333  # and x6, x9, x7
-    .word 0x40650533  # sub x10, x10, x6
-    .word 0x00159293  # slli x5, x11, 1
-    .word 0x00c2e5b3  # or x11, x5, x12
-    .word 0x01f55613  # srli x12, x10, 31
-    .word 0x00151293  # slli x5, x10, 1
-    .word 0x01f5d313  # srli x6, x11, 31
-    .word 0x0062e533  # or x10, x5, x6
-    .word 0x00953333  # sltu x6, x10, x9
-    .word 0x00133313  # sltiu x6, x6, 1
-    .word 0x00666633  # or x12, x12, x6
-    .word 0x40c003b3  # sub x7, x0, x12
-    .word 0x0074f333  # and x6, x9, x7
-    .word 0x40650533  # sub x10, x10, x6
-    .word 0x00159293  # slli x5, x11, 1
-    .word 0x00c2e5b3  # or x11, x5, x12
-    .word 0x01f55613  # srli x12, x10, 31
-    .word 0x00151293  # slli x5, x10, 1
-    .word 0x01f5d313  # srli x6, x11, 31
-    .word 0x0062e533  # or x10, x5, x6
-    .word 0x00953333  # sltu x6, x10, x9
-    .word 0x00133313  # sltiu x6, x6, 1
-    .word 0x00666633  # or x12, x12, x6
-    .word 0x40c003b3  # sub x7, x0, x12
-    .word 0x0074f333  # and x6, x9, x7
-    .word 0x40650533  # sub x10, x10, x6
-    .word 0x00159293  # slli x5, x11, 1
-    .word 0x00c2e5b3  # or x11, x5, x12
-    .word 0x01f55613  # srli x12, x10, 31
-    .word 0x00151293  # slli x5, x10, 1
-    .word 0x01f5d313  # srli x6, x11, 31
-    .word 0x0062e533  # or x10, x5, x6
-    .word 0x00953333  # sltu x6, x10, x9
-    .word 0x00133313  # sltiu x6, x6, 1
-    .word 0x00666633  # or x12, x12, x6
-    .word 0x40c003b3  # sub x7, x0, x12
-    .word 0x0074f333  # and x6, x9, x7
-    .word 0x40650533  # sub x10, x10, x6
-    .word 0x00159293  # slli x5, x11, 1
-    .word 0x00c2e5b3  # or x11, x5, x12
-    .word 0x01f55613  # srli x12, x10, 31
-    .word 0x00151293  # slli x5, x10, 1
-    .word 0x01f5d313  # srli x6, x11, 31
-    .word 0x0062e533  # or x10, x5, x6
-    .word 0x00953333  # sltu x6, x10, x9
-    .word 0x00133313  # sltiu x6, x6, 1
-    .word 0x00666633  # or x12, x12, x6
-    .word 0x40c003b3  # sub x7, x0, x12
-    .word 0x0074f333  # and x6, x9, x7
-    .word 0x40650533  # sub x10, x10, x6
-    .word 0x00159293  # slli x5, x11, 1
-    .word 0x00c2e5b3  # or x11, x5, x12
-    .word 0x01f55613  # srli x12, x10, 31
-    .word 0x00151293  # slli x5, x10, 1
-    .word 0x01f5d313  # srli x6, x11, 31
-    .word 0x0062e533  # or x10, x5, x6
-    .word 0x00953333  # sltu x6, x10, x9
-    .word 0x00133313  # sltiu x6, x6, 1
-    .word 0x00666633  # or x12, x12, x6
-    .word 0x40c003b3  # sub x7, x0, x12
-    .word 0x0074f333  # and x6, x9, x7
-    .word 0x40650533  # sub x10, x10, x6
-    .word 0x00159293  # slli x5, x11, 1
-    .word 0x00c2e5b3  # or x11, x5, x12
-    .word 0x01f55613  # srli x12, x10, 31
-    .word 0x00151293  # slli x5, x10, 1
-    .word 0x01f5d313  # srli x6, x11, 31
-    .word 0x0062e533  # or x10, x5, x6
-    .word 0x00953333  # sltu x6, x10, x9
-    .word 0x00133313  # sltiu x6, x6, 1
-    .word 0x00666633  # or x12, x12, x6
-    .word 0x40c003b3  # sub x7, x0, x12
-    .word 0x0074f333  # and x6, x9, x7
-    .word 0x40650533  # sub x10, x10, x6
-    .word 0x00159293  # slli x5, x11, 1
-    .word 0x00c2e5b3  # or x11, x5, x12
-    .word 0x01f55613  # srli x12, x10, 31
-    .word 0x00151293  # slli x5, x10, 1
-    .word 0x01f5d313  # srli x6, x11, 31
-    .word 0x0062e533  # or x10, x5, x6
-    .word 0x00953333  # sltu x6, x10, x9
-    .word 0x00133313  # sltiu x6, x6, 1
-    .word 0x00666633  # or x12, x12, x6
-    .word 0x40c003b3  # sub x7, x0, x12
-    .word 0x0074f333  # and x6, x9, x7
-    .word 0x40650533  # sub x10, x10, x6
-    .word 0x00159293  # slli x5, x11, 1
-    .word 0x00c2e5b3  # or x11, x5, x12
-    .word 0x01f55613  # srli x12, x10, 31
-    .word 0x00151293  # slli x5, x10, 1
-    .word 0x01f5d313  # srli x6, x11, 31
-    .word 0x0062e533  # or x10, x5, x6
-    .word 0x00953333  # sltu x6, x10, x9
-    .word 0x00133313  # sltiu x6, x6, 1
-    .word 0x00666633  # or x12, x12, x6
-    .word 0x40c003b3  # sub x7, x0, x12
-    .word 0x0074f333  # and x6, x9, x7
-    .word 0x40650533  # sub x10, x10, x6
-    .word 0x00159293  # slli x5, x11, 1
-    .word 0x00c2e5b3  # or x11, x5, x12
-    .word 0x01f55613  # srli x12, x10, 31
-    .word 0x00151293  # slli x5, x10, 1
-    .word 0x01f5d313  # srli x6, x11, 31
-    .word 0x0062e533  # or x10, x5, x6
-    .word 0x00953333  # sltu x6, x10, x9
-    .word 0x00133313  # sltiu x6, x6, 1
-    .word 0x00666633  # or x12, x12, x6
-    .word 0x40c003b3  # sub x7, x0, x12
-    .word 0x0074f333  # and x6, x9, x7
-    .word 0x40650533  # sub x10, x10, x6
-    .word 0x00159293  # slli x5, x11, 1
-    .word 0x00c2e5b3  # or x11, x5, x12
-    .word 0x01f55613  # srli x12, x10, 31
-    .word 0x00151293  # slli x5, x10, 1
-    .word 0x01f5d313  # srli x6, x11, 31
-    .word 0x0062e533  # or x10, x5, x6
-    .word 0x00953333  # sltu x6, x10, x9
-    .word 0x00133313  # sltiu x6, x6, 1
-    .word 0x00666633  # or x12, x12, x6
-    .word 0x40c003b3  # sub x7, x0, x12
-    .word 0x0074f333  # and x6, x9, x7
-    .word 0x40650533  # sub x10, x10, x6
-    .word 0x00159293  # slli x5, x11, 1
-    .word 0x00c2e5b3  # or x11, x5, x12
-    .word 0x01f55613  # srli x12, x10, 31
-    .word 0x00151293  # slli x5, x10, 1
-    .word 0x01f5d313  # srli x6, x11, 31
-    .word 0x0062e533  # or x10, x5, x6
-    .word 0x00953333  # sltu x6, x10, x9
-    .word 0x00133313  # sltiu x6, x6, 1
-    .word 0x00666633  # or x12, x12, x6
-    .word 0x40c003b3  # sub x7, x0, x12
-    .word 0x0074f333  # and x6, x9, x7
-    .word 0x40650533  # sub x10, x10, x6
-    .word 0x00159293  # slli x5, x11, 1
-    .word 0x00c2e5b3  # or x11, x5, x12
-    .word 0x01f55613  # srli x12, x10, 31
-    .word 0x00151293  # slli x5, x10, 1
-    .word 0x01f5d313  # srli x6, x11, 31
-    .word 0x0062e533  # or x10, x5, x6
-    .word 0x00953333  # sltu x6, x10, x9
-    .word 0x00133313  # sltiu x6, x6, 1
-    .word 0x00666633  # or x12, x12, x6
-    .word 0x40c003b3  # sub x7, x0, x12
-    .word 0x0074f333  # and x6, x9, x7
-    .word 0x40650533  # sub x10, x10, x6
-    .word 0x00159293  # slli x5, x11, 1
-    .word 0x00c2e5b3  # or x11, x5, x12
-    .word 0x01f55613  # srli x12, x10, 31
-    .word 0x00151293  # slli x5, x10, 1
-    .word 0x01f5d313  # srli x6, x11, 31
-    .word 0x0062e533  # or x10, x5, x6
-    .word 0x00953333  # sltu x6, x10, x9
-    .word 0x00133313  # sltiu x6, x6, 1
-    .word 0x00666633  # or x12, x12, x6
-    .word 0x40c003b3  # sub x7, x0, x12
-    .word 0x0074f333  # and x6, x9, x7
-    .word 0x40650533  # sub x10, x10, x6
-    .word 0x00159293  # slli x5, x11, 1
-    .word 0x00c2e5b3  # or x11, x5, x12
-    .word 0x01f55613  # srli x12, x10, 31
-    .word 0x00151293  # slli x5, x10, 1
-    .word 0x01f5d313  # srli x6, x11, 31
-    .word 0x0062e533  # or x10, x5, x6
-    .word 0x00953333  # sltu x6, x10, x9
-    .word 0x00133313  # sltiu x6, x6, 1
-    .word 0x00666633  # or x12, x12, x6
-    .word 0x40c003b3  # sub x7, x0, x12
-    .word 0x0074f333  # and x6, x9, x7
-    .word 0x40650533  # sub x10, x10, x6
-    .word 0x00159293  # slli x5, x11, 1
-    .word 0x00c2e5b3  # or x11, x5, x12
-    .word 0x01f55613  # srli x12, x10, 31
-    .word 0x00151293  # slli x5, x10, 1
-    .word 0x01f5d313  # srli x6, x11, 31
-    .word 0x0062e533  # or x10, x5, x6
-    .word 0x00953333  # sltu x6, x10, x9
-    .word 0x00133313  # sltiu x6, x6, 1
-    .word 0x00666633  # or x12, x12, x6
-    .word 0x40c003b3  # sub x7, x0, x12
-    .word 0x0074f333  # and x6, x9, x7
-    .word 0x40650533  # sub x10, x10, x6
-    .word 0x00159293  # slli x5, x11, 1
-    .word 0x00c2e5b3  # or x11, x5, x12
-    .word 0x01f55613  # srli x12, x10, 31
-    .word 0x00151293  # slli x5, x10, 1
-    .word 0x01f5d313  # srli x6, x11, 31
-    .word 0x0062e533  # or x10, x5, x6
-    .word 0x00953333  # sltu x6, x10, x9
-    .word 0x00133313  # sltiu x6, x6, 1
-    .word 0x00666633  # or x12, x12, x6
-    .word 0x40c003b3  # sub x7, x0, x12
-    .word 0x0074f333  # and x6, x9, x7
-    .word 0x40650533  # sub x10, x10, x6
-    .word 0x00159293  # slli x5, x11, 1
-    .word 0x00c2e5b3  # or x11, x5, x12
-    .word 0x01f55613  # srli x12, x10, 31
-    .word 0x00151293  # slli x5, x10, 1
-    .word 0x01f5d313  # srli x6, x11, 31
-    .word 0x0062e533  # or x10, x5, x6
-    .word 0x00953333  # sltu x6, x10, x9
-    .word 0x00133313  # sltiu x6, x6, 1
-    .word 0x00666633  # or x12, x12, x6
-    .word 0x40c003b3  # sub x7, x0, x12
-    .word 0x0074f333  # and x6, x9, x7
-    .word 0x40650533  # sub x10, x10, x6
-    .word 0x00159293  # slli x5, x11, 1
-    .word 0x00c2e5b3  # or x11, x5, x12
-    .word 0x01f55613  # srli x12, x10, 31
-    .word 0x00151293  # slli x5, x10, 1
-    .word 0x01f5d313  # srli x6, x11, 31
-    .word 0x0062e533  # or x10, x5, x6
-    .word 0x00953333  # sltu x6, x10, x9
-    .word 0x00133313  # sltiu x6, x6, 1
-    .word 0x00666633  # or x12, x12, x6
-    .word 0x40c003b3  # sub x7, x0, x12
-    .word 0x0074f333  # and x6, x9, x7
-    .word 0x40650533  # sub x10, x10, x6
-    .word 0x00159293  # slli x5, x11, 1
-    .word 0x00c2e5b3  # or x11, x5, x12
+    .word 0x40e285b3  # sub x11, x5, x14
+    .word 0x00160613  # addi x12, x12, 1
+    .word 0x00863293  # sltiu x5, x12, 8
+    .word 0xf40294e3  # bne x5, x0, -184
+    .word 0xfff60613  # addi x12, x12, -1
     .word 0x00b12423  # sw x11, 8(x2)
     .word 0x00a12623  # sw x10, 12(x2)
     # the result
@@ -441,16 +115,8 @@ divide_32:
     .word 0x00012a23  # sw x0, 20(x2)
     .word 0x00012c23  # sw x0, 24(x2)
     .word 0x00012e23  # sw x0, 28(x2)
-    .word 0x02012023  # sw x0, 32(x2)
-    .word 0x02012223  # sw x0, 36(x2)
-    .word 0x02012423  # sw x0, 40(x2)
-    .word 0x02012623  # sw x0, 44(x2)
-    .word 0x02012823  # sw x0, 48(x2)
-    .word 0x02012a23  # sw x0, 52(x2)
-    .word 0x02012c23  # sw x0, 56(x2)
-    .word 0x02012e23  # sw x0, 60(x2)
-    .word 0x04010113  # addi x2, x2, 64
-    .word 0xfa511ee3  # bne x2, x5, -68
+    .word 0x02010113  # addi x2, x2, 32
+    .word 0xfc511ee3  # bne x2, x5, -36
     .cfi_def_cfa 2, 0
     # temporaries, wiped
     .word 0x00000293  # addi x5, x0, 0

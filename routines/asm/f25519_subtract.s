@@ -1,4 +1,4 @@
-# f25519_subtract: made by factc 1.0.0 function; 334 words, 176 bytes of stack, profile 1
+# f25519_subtract: made by factc 1.0.0 function; 281 words, 144 bytes of stack, profile 1
     .option push
     .option norvc
     .option norelax
@@ -10,38 +10,26 @@
 f25519_subtract:
     .cfi_startproc
     # room above the frame
-    .word 0xfc010113  # addi x2, x2, -64
-    .cfi_def_cfa_offset 64
+    .word 0xfe010113  # addi x2, x2, -32
+    .cfi_def_cfa_offset 32
     # the caller's registers
     .word 0x00912023  # sw x9, 0(x2)
-    .cfi_offset 9, -64
+    .cfi_offset 9, -32
     .word 0x01212223  # sw x18, 4(x2)
-    .cfi_offset 18, -60
+    .cfi_offset 18, -28
     .word 0x01312423  # sw x19, 8(x2)
-    .cfi_offset 19, -56
+    .cfi_offset 19, -24
     .word 0x01412623  # sw x20, 12(x2)
-    .cfi_offset 20, -52
+    .cfi_offset 20, -20
     .word 0x01512823  # sw x21, 16(x2)
-    .cfi_offset 21, -48
-    .word 0x01612a23  # sw x22, 20(x2)
-    .cfi_offset 22, -44
-    .word 0x01712c23  # sw x23, 24(x2)
-    .cfi_offset 23, -40
-    .word 0x01812e23  # sw x24, 28(x2)
-    .cfi_offset 24, -36
-    .word 0x03912023  # sw x25, 32(x2)
-    .cfi_offset 25, -32
-    .word 0x03a12223  # sw x26, 36(x2)
-    .cfi_offset 26, -28
-    .word 0x03b12423  # sw x27, 40(x2)
-    .cfi_offset 27, -24
+    .cfi_offset 21, -16
     # arguments that are needed behind the body
-    .word 0x02a12a23  # sw x10, 52(x2)
-    .word 0x02b12c23  # sw x11, 56(x2)
-    .word 0x02c12e23  # sw x12, 60(x2)
+    .word 0x00a12a23  # sw x10, 20(x2)
+    .word 0x00b12c23  # sw x11, 24(x2)
+    .word 0x00c12e23  # sw x12, 28(x2)
     # the frame's base
     .word 0xf9010113  # addi x2, x2, -112
-    .cfi_def_cfa 2, 176
+    .cfi_def_cfa 2, 144
     # parameter 0: an array
     .word 0x00050293  # addi x5, x10, 0
     .word 0x00010313  # addi x6, x2, 0
@@ -85,210 +73,185 @@ f25519_subtract:
     .word 0xfb428593  # addi x11, x5, -76
     .word 0xfb45b493  # sltiu x9, x11, -76
     .word 0x02012303  # lw x6, 32(x2)
-    .word 0x406586b3  # sub x13, x11, x6
-    .word 0x00068813  # addi x16, x13, 0
+    .word 0x40658633  # sub x12, x11, x6
+    .word 0x00060713  # addi x14, x12, 0
     .word 0x02012303  # lw x6, 32(x2)
     .word 0x0065b533  # sltu x10, x11, x6
     .word 0x00412283  # lw x5, 4(x2)
     .word 0xfff28593  # addi x11, x5, -1
-    .word 0x00958633  # add x12, x11, x9
+    .word 0x009586b3  # add x13, x11, x9
     .word 0xfff5b293  # sltiu x5, x11, -1
-    .word 0x00963333  # sltu x6, x12, x9
+    .word 0x0096b333  # sltu x6, x13, x9
     .word 0x006284b3  # add x9, x5, x6
     .word 0x02412303  # lw x6, 36(x2)
-    .word 0x406606b3  # sub x13, x12, x6
-    .word 0x40a688b3  # sub x17, x13, x10
+    .word 0x40668633  # sub x12, x13, x6
+    .word 0x40a607b3  # sub x15, x12, x10
     .word 0x02412303  # lw x6, 36(x2)
-    .word 0x006632b3  # sltu x5, x12, x6
-    .word 0x00a6b333  # sltu x6, x13, x10
+    .word 0x0066b2b3  # sltu x5, x13, x6
+    .word 0x00a63333  # sltu x6, x12, x10
     .word 0x00628533  # add x10, x5, x6
     .word 0x00812283  # lw x5, 8(x2)
     .word 0xfff28593  # addi x11, x5, -1
-    .word 0x00958633  # add x12, x11, x9
+    .word 0x009586b3  # add x13, x11, x9
     .word 0xfff5b293  # sltiu x5, x11, -1
-    .word 0x00963333  # sltu x6, x12, x9
+    .word 0x0096b333  # sltu x6, x13, x9
     .word 0x006284b3  # add x9, x5, x6
     .word 0x02812303  # lw x6, 40(x2)
-    .word 0x406606b3  # sub x13, x12, x6
-    .word 0x40a68933  # sub x18, x13, x10
+    .word 0x40668633  # sub x12, x13, x6
+    .word 0x40a60833  # sub x16, x12, x10
     .word 0x02812303  # lw x6, 40(x2)
-    .word 0x006632b3  # sltu x5, x12, x6
-    .word 0x00a6b333  # sltu x6, x13, x10
+    .word 0x0066b2b3  # sltu x5, x13, x6
+    .word 0x00a63333  # sltu x6, x12, x10
     .word 0x00628533  # add x10, x5, x6
     .word 0x00c12283  # lw x5, 12(x2)
     .word 0xfff28593  # addi x11, x5, -1
-    .word 0x00958633  # add x12, x11, x9
+    .word 0x009586b3  # add x13, x11, x9
     .word 0xfff5b293  # sltiu x5, x11, -1
-    .word 0x00963333  # sltu x6, x12, x9
+    .word 0x0096b333  # sltu x6, x13, x9
     .word 0x006284b3  # add x9, x5, x6
     .word 0x02c12303  # lw x6, 44(x2)
-    .word 0x406606b3  # sub x13, x12, x6
-    .word 0x40a68733  # sub x14, x13, x10
+    .word 0x40668633  # sub x12, x13, x6
+    .word 0x40a608b3  # sub x17, x12, x10
     .word 0x02c12303  # lw x6, 44(x2)
-    .word 0x006632b3  # sltu x5, x12, x6
-    .word 0x00a6b333  # sltu x6, x13, x10
+    .word 0x0066b2b3  # sltu x5, x13, x6
+    .word 0x00a63333  # sltu x6, x12, x10
     .word 0x00628533  # add x10, x5, x6
     .word 0x01012283  # lw x5, 16(x2)
     .word 0xfff28593  # addi x11, x5, -1
-    .word 0x00958633  # add x12, x11, x9
+    .word 0x009586b3  # add x13, x11, x9
     .word 0xfff5b293  # sltiu x5, x11, -1
-    .word 0x00963333  # sltu x6, x12, x9
+    .word 0x0096b333  # sltu x6, x13, x9
     .word 0x006284b3  # add x9, x5, x6
     .word 0x03012303  # lw x6, 48(x2)
-    .word 0x406606b3  # sub x13, x12, x6
-    .word 0x40a68db3  # sub x27, x13, x10
+    .word 0x40668633  # sub x12, x13, x6
+    .word 0x40a60933  # sub x18, x12, x10
     .word 0x03012303  # lw x6, 48(x2)
-    .word 0x006632b3  # sltu x5, x12, x6
-    .word 0x00a6b333  # sltu x6, x13, x10
+    .word 0x0066b2b3  # sltu x5, x13, x6
+    .word 0x00a63333  # sltu x6, x12, x10
     .word 0x00628533  # add x10, x5, x6
     .word 0x01412283  # lw x5, 20(x2)
     .word 0xfff28593  # addi x11, x5, -1
-    .word 0x00958633  # add x12, x11, x9
+    .word 0x009586b3  # add x13, x11, x9
     .word 0xfff5b293  # sltiu x5, x11, -1
-    .word 0x00963333  # sltu x6, x12, x9
+    .word 0x0096b333  # sltu x6, x13, x9
     .word 0x006284b3  # add x9, x5, x6
     .word 0x03412303  # lw x6, 52(x2)
-    .word 0x406606b3  # sub x13, x12, x6
-    .word 0x40a68a33  # sub x20, x13, x10
+    .word 0x40668633  # sub x12, x13, x6
+    .word 0x40a609b3  # sub x19, x12, x10
     .word 0x03412303  # lw x6, 52(x2)
-    .word 0x006632b3  # sltu x5, x12, x6
-    .word 0x00a6b333  # sltu x6, x13, x10
+    .word 0x0066b2b3  # sltu x5, x13, x6
+    .word 0x00a63333  # sltu x6, x12, x10
     .word 0x00628533  # add x10, x5, x6
     .word 0x01812283  # lw x5, 24(x2)
     .word 0xfff28593  # addi x11, x5, -1
-    .word 0x00958633  # add x12, x11, x9
+    .word 0x009586b3  # add x13, x11, x9
     .word 0xfff5b293  # sltiu x5, x11, -1
-    .word 0x00963333  # sltu x6, x12, x9
+    .word 0x0096b333  # sltu x6, x13, x9
     .word 0x006284b3  # add x9, x5, x6
     .word 0x03812303  # lw x6, 56(x2)
-    .word 0x406606b3  # sub x13, x12, x6
-    .word 0x40a68ab3  # sub x21, x13, x10
+    .word 0x40668633  # sub x12, x13, x6
+    .word 0x40a60a33  # sub x20, x12, x10
     .word 0x03812303  # lw x6, 56(x2)
-    .word 0x006632b3  # sltu x5, x12, x6
-    .word 0x00a6b333  # sltu x6, x13, x10
+    .word 0x0066b2b3  # sltu x5, x13, x6
+    .word 0x00a63333  # sltu x6, x12, x10
     .word 0x00628533  # add x10, x5, x6
     .word 0x01c12283  # lw x5, 28(x2)
     .word 0xfff28593  # addi x11, x5, -1
-    .word 0x00958633  # add x12, x11, x9
+    .word 0x009586b3  # add x13, x11, x9
     .word 0xfff5b293  # sltiu x5, x11, -1
-    .word 0x00963333  # sltu x6, x12, x9
+    .word 0x0096b333  # sltu x6, x13, x9
     .word 0x006284b3  # add x9, x5, x6
     .word 0x03c12303  # lw x6, 60(x2)
-    .word 0x406606b3  # sub x13, x12, x6
-    .word 0x40a689b3  # sub x19, x13, x10
+    .word 0x40668633  # sub x12, x13, x6
+    .word 0x40a60ab3  # sub x21, x12, x10
     .word 0x03c12303  # lw x6, 60(x2)
-    .word 0x006632b3  # sltu x5, x12, x6
-    .word 0x00a6b333  # sltu x6, x13, x10
+    .word 0x0066b2b3  # sltu x5, x13, x6
+    .word 0x00a63333  # sltu x6, x12, x10
     .word 0x00628533  # add x10, x5, x6
     .word 0x00148293  # addi x5, x9, 1
-    .word 0x40a28633  # sub x12, x5, x10
+    .word 0x40a286b3  # sub x13, x5, x10
     .word 0x01300293  # addi x5, x0, 19
-    .word 0x00161313  # slli x6, x12, 1
-    .word 0x01f9d393  # srli x7, x19, 31
+    .word 0x00169313  # slli x6, x13, 1
+    .word 0x01fad393  # srli x7, x21, 31
     .word 0x00736333  # or x6, x6, x7
-    .word 0x02628633  # mul x12, x5, x6
-    .word 0x00c805b3  # add x11, x16, x12
-    .word 0x00c5b633  # sltu x12, x11, x12
+    .word 0x026286b3  # mul x13, x5, x6
+    .word 0x001a9a93  # slli x21, x21, 1
+    .word 0x001ada93  # srli x21, x21, 1
+    .word 0x00d70733  # add x14, x14, x13
+    .word 0x00d736b3  # sltu x13, x14, x13
+    .word 0x00d787b3  # add x15, x15, x13
+    .word 0x00d7b6b3  # sltu x13, x15, x13
+    .word 0x00d80833  # add x16, x16, x13
+    .word 0x00d836b3  # sltu x13, x16, x13
+    .word 0x00d888b3  # add x17, x17, x13
+    .word 0x00d8b6b3  # sltu x13, x17, x13
+    .word 0x00d90933  # add x18, x18, x13
+    .word 0x00d936b3  # sltu x13, x18, x13
+    .word 0x00d989b3  # add x19, x19, x13
+    .word 0x00d9b6b3  # sltu x13, x19, x13
+    .word 0x00da0a33  # add x20, x20, x13
+    .word 0x00da36b3  # sltu x13, x20, x13
+    .word 0x00da8ab3  # add x21, x21, x13
+    .word 0x01300313  # addi x6, x0, 19
+    .word 0x01fad393  # srli x7, x21, 31
+    .word 0x02730333  # mul x6, x6, x7
+    .word 0x00670733  # add x14, x14, x6
+    .word 0x001a9a93  # slli x21, x21, 1
+    .word 0x001ada93  # srli x21, x21, 1
+    .word 0x01370293  # addi x5, x14, 19
+    .word 0x0132b693  # sltiu x13, x5, 19
+    .word 0x00d782b3  # add x5, x15, x13
+    .word 0x00d2b6b3  # sltu x13, x5, x13
+    .word 0x00d802b3  # add x5, x16, x13
+    .word 0x00d2b6b3  # sltu x13, x5, x13
+    .word 0x00d882b3  # add x5, x17, x13
+    .word 0x00d2b6b3  # sltu x13, x5, x13
+    .word 0x00d902b3  # add x5, x18, x13
+    .word 0x00d2b6b3  # sltu x13, x5, x13
+    .word 0x00d982b3  # add x5, x19, x13
+    .word 0x00d2b6b3  # sltu x13, x5, x13
+    .word 0x00da02b3  # add x5, x20, x13
+    .word 0x00d2b6b3  # sltu x13, x5, x13
+    .word 0x00da82b3  # add x5, x21, x13
+    .word 0x01f2d293  # srli x5, x5, 31
+    .word 0x405002b3  # sub x5, x0, x5
+    .word 0x0132f693  # andi x13, x5, 19
+    .word 0x00d705b3  # add x11, x14, x13
+    .word 0x00d5b6b3  # sltu x13, x11, x13
     .word 0x00058493  # addi x9, x11, 0
-    .word 0x00c885b3  # add x11, x17, x12
-    .word 0x00c5b633  # sltu x12, x11, x12
+    .word 0x00d785b3  # add x11, x15, x13
+    .word 0x00d5b6b3  # sltu x13, x11, x13
     .word 0x00058513  # addi x10, x11, 0
-    .word 0x00c905b3  # add x11, x18, x12
-    .word 0x00c5b633  # sltu x12, x11, x12
-    .word 0x00058693  # addi x13, x11, 0
-    .word 0x00c705b3  # add x11, x14, x12
-    .word 0x00c5b633  # sltu x12, x11, x12
+    .word 0x00d805b3  # add x11, x16, x13
+    .word 0x00d5b6b3  # sltu x13, x11, x13
+    .word 0x00058613  # addi x12, x11, 0
+    .word 0x00d885b3  # add x11, x17, x13
+    .word 0x00d5b6b3  # sltu x13, x11, x13
+    .word 0x00058713  # addi x14, x11, 0
+    .word 0x00d905b3  # add x11, x18, x13
+    .word 0x00d5b6b3  # sltu x13, x11, x13
+    .word 0x00058793  # addi x15, x11, 0
+    .word 0x00d985b3  # add x11, x19, x13
+    .word 0x00d5b6b3  # sltu x13, x11, x13
     .word 0x00058813  # addi x16, x11, 0
-    .word 0x00cd85b3  # add x11, x27, x12
-    .word 0x00c5b633  # sltu x12, x11, x12
+    .word 0x00da05b3  # add x11, x20, x13
+    .word 0x00d5b6b3  # sltu x13, x11, x13
     .word 0x00058893  # addi x17, x11, 0
-    .word 0x00ca05b3  # add x11, x20, x12
-    .word 0x00c5b633  # sltu x12, x11, x12
-    .word 0x00058913  # addi x18, x11, 0
-    .word 0x00ca85b3  # add x11, x21, x12
-    .word 0x00c5b633  # sltu x12, x11, x12
-    .word 0x00199293  # slli x5, x19, 1
-    .word 0x0012d293  # srli x5, x5, 1
-    .word 0x00c28633  # add x12, x5, x12
-    .word 0x00161993  # slli x19, x12, 1
-    .word 0x0019d993  # srli x19, x19, 1
-    .word 0x01300293  # addi x5, x0, 19
-    .word 0x01f65313  # srli x6, x12, 31
-    .word 0x02628633  # mul x12, x5, x6
-    .word 0x00c48733  # add x14, x9, x12
-    .word 0x00c73333  # sltu x6, x14, x12
-    .word 0x00650533  # add x10, x10, x6
-    .word 0x01370613  # addi x12, x14, 19
-    .word 0x01363493  # sltiu x9, x12, 19
-    .word 0x00060a13  # addi x20, x12, 0
-    .word 0x00950633  # add x12, x10, x9
-    .word 0x009634b3  # sltu x9, x12, x9
-    .word 0x00060a93  # addi x21, x12, 0
-    .word 0x00968633  # add x12, x13, x9
-    .word 0x009634b3  # sltu x9, x12, x9
-    .word 0x00060b13  # addi x22, x12, 0
-    .word 0x00980633  # add x12, x16, x9
-    .word 0x009634b3  # sltu x9, x12, x9
-    .word 0x00060b93  # addi x23, x12, 0
-    .word 0x00988633  # add x12, x17, x9
-    .word 0x009634b3  # sltu x9, x12, x9
-    .word 0x00060c13  # addi x24, x12, 0
-    .word 0x00990633  # add x12, x18, x9
-    .word 0x009634b3  # sltu x9, x12, x9
-    .word 0x00060c93  # addi x25, x12, 0
-    .word 0x00958633  # add x12, x11, x9
-    .word 0x009634b3  # sltu x9, x12, x9
-    .word 0x00060d13  # addi x26, x12, 0
-    .word 0x00998633  # add x12, x19, x9
-    .word 0x01f65293  # srli x5, x12, 31
-    .word 0xfff28793  # addi x15, x5, -1
-    .word 0x0017b793  # sltiu x15, x15, 1
-    .word 0x00161d93  # slli x27, x12, 1
-    .word 0x001ddd93  # srli x27, x27, 1
-    .word 0x40f002b3  # sub x5, x0, x15
-    .word 0x00ea4333  # xor x6, x20, x14
-    .word 0x00537333  # and x6, x6, x5
-    .word 0x006744b3  # xor x9, x14, x6
-    .word 0x40f002b3  # sub x5, x0, x15
-    .word 0x00aac333  # xor x6, x21, x10
-    .word 0x00537333  # and x6, x6, x5
-    .word 0x00654533  # xor x10, x10, x6
-    .word 0x40f002b3  # sub x5, x0, x15
-    .word 0x00db4333  # xor x6, x22, x13
-    .word 0x00537333  # and x6, x6, x5
-    .word 0x0066c6b3  # xor x13, x13, x6
-    .word 0x40f002b3  # sub x5, x0, x15
-    .word 0x010bc333  # xor x6, x23, x16
-    .word 0x00537333  # and x6, x6, x5
-    .word 0x00684833  # xor x16, x16, x6
-    .word 0x40f002b3  # sub x5, x0, x15
-    .word 0x011c4333  # xor x6, x24, x17
-    .word 0x00537333  # and x6, x6, x5
-    .word 0x0068c8b3  # xor x17, x17, x6
-    .word 0x40f002b3  # sub x5, x0, x15
-    .word 0x012cc333  # xor x6, x25, x18
-    .word 0x00537333  # and x6, x6, x5
-    .word 0x00694933  # xor x18, x18, x6
-    .word 0x40f002b3  # sub x5, x0, x15
-    .word 0x00bd4333  # xor x6, x26, x11
-    .word 0x00537333  # and x6, x6, x5
-    .word 0x0065c633  # xor x12, x11, x6
-    .word 0x40f002b3  # sub x5, x0, x15
-    .word 0x013dc333  # xor x6, x27, x19
-    .word 0x00537333  # and x6, x6, x5
-    .word 0x0069c9b3  # xor x19, x19, x6
+    .word 0x00da85b3  # add x11, x21, x13
+    .word 0x00159693  # slli x13, x11, 1
+    .word 0x0016d693  # srli x13, x13, 1
     .word 0x04912023  # sw x9, 64(x2)
     .word 0x04a12223  # sw x10, 68(x2)
-    .word 0x04d12423  # sw x13, 72(x2)
-    .word 0x05012623  # sw x16, 76(x2)
-    .word 0x05112823  # sw x17, 80(x2)
-    .word 0x05212a23  # sw x18, 84(x2)
-    .word 0x04c12c23  # sw x12, 88(x2)
-    .word 0x05312e23  # sw x19, 92(x2)
+    .word 0x04c12423  # sw x12, 72(x2)
+    .word 0x04e12623  # sw x14, 76(x2)
+    .word 0x04f12823  # sw x15, 80(x2)
+    .word 0x05012a23  # sw x16, 84(x2)
+    .word 0x05112c23  # sw x17, 88(x2)
+    .word 0x04d12e23  # sw x13, 92(x2)
     # the result
     .word 0x00000513  # addi x10, x0, 0
     # parameter 2: the array, back
-    .word 0x0ac12283  # lw x5, 172(x2)
+    .word 0x08c12283  # lw x5, 140(x2)
     .word 0x04010313  # addi x6, x2, 64
     .word 0x00032e03  # lw x28, 0(x6)
     .word 0x01c2a023  # sw x28, 0(x5)
@@ -319,35 +282,15 @@ f25519_subtract:
     .cfi_restore 20
     .word 0x0102aa83  # lw x21, 16(x5)
     .cfi_restore 21
-    .word 0x0142ab03  # lw x22, 20(x5)
-    .cfi_restore 22
-    .word 0x0182ab83  # lw x23, 24(x5)
-    .cfi_restore 23
-    .word 0x01c2ac03  # lw x24, 28(x5)
-    .cfi_restore 24
-    .word 0x0202ac83  # lw x25, 32(x5)
-    .cfi_restore 25
-    .word 0x0242ad03  # lw x26, 36(x5)
-    .cfi_restore 26
-    .word 0x0282ad83  # lw x27, 40(x5)
-    .cfi_restore 27
     # the caller's x2
-    .word 0x04028293  # addi x5, x5, 64
+    .word 0x02028293  # addi x5, x5, 32
     .cfi_def_cfa 5, 0
     # all the room, wiped upward
     .word 0x00012023  # sw x0, 0(x2)
     .word 0x00012223  # sw x0, 4(x2)
     .word 0x00012423  # sw x0, 8(x2)
     .word 0x00012623  # sw x0, 12(x2)
-    .word 0x00012823  # sw x0, 16(x2)
-    .word 0x00012a23  # sw x0, 20(x2)
-    .word 0x00012c23  # sw x0, 24(x2)
-    .word 0x00012e23  # sw x0, 28(x2)
-    .word 0x02012023  # sw x0, 32(x2)
-    .word 0x02012223  # sw x0, 36(x2)
-    .word 0x02012423  # sw x0, 40(x2)
-    .word 0x02012623  # sw x0, 44(x2)
-    .word 0x03010113  # addi x2, x2, 48
+    .word 0x01010113  # addi x2, x2, 16
     .word 0x00012023  # sw x0, 0(x2)
     .word 0x00012223  # sw x0, 4(x2)
     .word 0x00012423  # sw x0, 8(x2)
@@ -356,16 +299,8 @@ f25519_subtract:
     .word 0x00012a23  # sw x0, 20(x2)
     .word 0x00012c23  # sw x0, 24(x2)
     .word 0x00012e23  # sw x0, 28(x2)
-    .word 0x02012023  # sw x0, 32(x2)
-    .word 0x02012223  # sw x0, 36(x2)
-    .word 0x02012423  # sw x0, 40(x2)
-    .word 0x02012623  # sw x0, 44(x2)
-    .word 0x02012823  # sw x0, 48(x2)
-    .word 0x02012a23  # sw x0, 52(x2)
-    .word 0x02012c23  # sw x0, 56(x2)
-    .word 0x02012e23  # sw x0, 60(x2)
-    .word 0x04010113  # addi x2, x2, 64
-    .word 0xfa511ee3  # bne x2, x5, -68
+    .word 0x02010113  # addi x2, x2, 32
+    .word 0xfc511ee3  # bne x2, x5, -36
     .cfi_def_cfa 2, 0
     # temporaries, wiped
     .word 0x00000293  # addi x5, x0, 0

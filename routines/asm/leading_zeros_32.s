@@ -1,4 +1,4 @@
-# leading_zeros_32: made by factc 1.0.0 function; 70 words, 32 bytes of stack, profile 1
+# leading_zeros_32: made by factc 1.0.0 function; 71 words, 32 bytes of stack, profile 1
     .option push
     .option norvc
     .option norelax
@@ -82,6 +82,7 @@ leading_zeros_32:
     .word 0x00012c23  # sw x0, 24(x2)
     .word 0x00012e23  # sw x0, 28(x2)
     .word 0x02010113  # addi x2, x2, 32
+    .word 0xfc511ee3  # bne x2, x5, -36
     .cfi_def_cfa 2, 0
     # temporaries, wiped
     .word 0x00000293  # addi x5, x0, 0

@@ -1,4 +1,4 @@
-# lookup_bytes_16: made by factc 1.0.0 function; 276 words, 304 bytes of stack, profile 1
+# lookup_bytes_16: made by factc 1.0.0 function; 198 words, 304 bytes of stack, profile 1
     .option push
     .option norvc
     .option norelax
@@ -29,21 +29,15 @@ lookup_bytes_16:
     .word 0x00058293  # addi x5, x11, 0
     .word 0x00410313  # addi x6, x2, 4
     .word 0x0032fe13  # andi x28, x5, 3
-    .word 0x020e0e63  # beq x28, x0, 60
+    .word 0x020e0263  # beq x28, x0, 36
     .word 0x10000393  # addi x7, x0, 256
     .word 0x005383b3  # add x7, x7, x5
     .word 0x0002ce03  # lbu x28, 0(x5)
     .word 0x01c30023  # sb x28, 0(x6)
-    .word 0x0012ce03  # lbu x28, 1(x5)
-    .word 0x01c300a3  # sb x28, 1(x6)
-    .word 0x0022ce03  # lbu x28, 2(x5)
-    .word 0x01c30123  # sb x28, 2(x6)
-    .word 0x0032ce03  # lbu x28, 3(x5)
-    .word 0x01c301a3  # sb x28, 3(x6)
-    .word 0x00428293  # addi x5, x5, 4
-    .word 0x00430313  # addi x6, x6, 4
-    .word 0xfc729ce3  # bne x5, x7, -40
-    .word 0x0580006f  # jal x0, 88
+    .word 0x00128293  # addi x5, x5, 1
+    .word 0x00130313  # addi x6, x6, 1
+    .word 0xfe7298e3  # bne x5, x7, -16
+    .word 0x0380006f  # jal x0, 56
     .word 0x10000393  # addi x7, x0, 256
     .word 0x005383b3  # add x7, x7, x5
     .word 0x0002ae03  # lw x28, 0(x5)
@@ -54,191 +48,135 @@ lookup_bytes_16:
     .word 0x01c32423  # sw x28, 8(x6)
     .word 0x00c2ae03  # lw x28, 12(x5)
     .word 0x01c32623  # sw x28, 12(x6)
-    .word 0x0102ae03  # lw x28, 16(x5)
-    .word 0x01c32823  # sw x28, 16(x6)
-    .word 0x0142ae03  # lw x28, 20(x5)
-    .word 0x01c32a23  # sw x28, 20(x6)
-    .word 0x0182ae03  # lw x28, 24(x5)
-    .word 0x01c32c23  # sw x28, 24(x6)
-    .word 0x01c2ae03  # lw x28, 28(x5)
-    .word 0x01c32e23  # sw x28, 28(x6)
-    .word 0x02028293  # addi x5, x5, 32
-    .word 0x02030313  # addi x6, x6, 32
-    .word 0xfa729ce3  # bne x5, x7, -72
+    .word 0x01028293  # addi x5, x5, 16
+    .word 0x01030313  # addi x6, x6, 16
+    .word 0xfc729ce3  # bne x5, x7, -40
     # the body
     .word 0x00012483  # lw x9, 0(x2)
     .word 0x00000513  # addi x10, x0, 0
     .word 0x00000593  # addi x11, x0, 0
-    .word 0x00250633  # add x12, x10, x2
+    .word 0x00000613  # addi x12, x0, 0
+    .word 0x002586b3  # add x13, x11, x2
+    .word 0x10010223  # sb x0, 260(x2)
+    .word 0x100102a3  # sb x0, 261(x2)
+    .word 0x10010323  # sb x0, 262(x2)
+    .word 0x100103a3  # sb x0, 263(x2)
+    .word 0x10010423  # sb x0, 264(x2)
+    .word 0x100104a3  # sb x0, 265(x2)
+    .word 0x10010523  # sb x0, 266(x2)
+    .word 0x100105a3  # sb x0, 267(x2)
+    .word 0x10010623  # sb x0, 268(x2)
+    .word 0x100106a3  # sb x0, 269(x2)
+    .word 0x10010723  # sb x0, 270(x2)
+    .word 0x100107a3  # sb x0, 271(x2)
+    .word 0x10010823  # sb x0, 272(x2)
+    .word 0x100108a3  # sb x0, 273(x2)
+    .word 0x10010923  # sb x0, 274(x2)
+    .word 0x100109a3  # sb x0, 275(x2)
     .word 0x00000513  # addi x10, x0, 0
-    .word 0x00250633  # add x12, x10, x2
-    .word 0x00464283  # lbu x5, 4(x12)
-    .word 0x0014b313  # sltiu x6, x9, 1
-    .word 0x40600333  # sub x6, x0, x6
-    .word 0x0ff37313  # andi x6, x6, 255
-    .word 0x0062f5b3  # and x11, x5, x6
-    .word 0x01050313  # addi x6, x10, 16
-    .word 0x00230333  # add x6, x6, x2
-    .word 0x00434303  # lbu x6, 4(x6)
-    .word 0xfff48393  # addi x7, x9, -1
-    .word 0x0013b393  # sltiu x7, x7, 1
-    .word 0x407003b3  # sub x7, x0, x7
-    .word 0x0ff3f393  # andi x7, x7, 255
-    .word 0x00737333  # and x6, x6, x7
-    .word 0x0065e5b3  # or x11, x11, x6
-    .word 0x02050313  # addi x6, x10, 32
-    .word 0x00230333  # add x6, x6, x2
-    .word 0x00434303  # lbu x6, 4(x6)
-    .word 0xffe48393  # addi x7, x9, -2
-    .word 0x0013b393  # sltiu x7, x7, 1
-    .word 0x407003b3  # sub x7, x0, x7
-    .word 0x0ff3f393  # andi x7, x7, 255
-    .word 0x00737333  # and x6, x6, x7
-    .word 0x0065e5b3  # or x11, x11, x6
-    .word 0x03050313  # addi x6, x10, 48
-    .word 0x00230333  # add x6, x6, x2
-    .word 0x00434303  # lbu x6, 4(x6)
-    .word 0xffd48393  # addi x7, x9, -3
-    .word 0x0013b393  # sltiu x7, x7, 1
-    .word 0x407003b3  # sub x7, x0, x7
-    .word 0x0ff3f393  # andi x7, x7, 255
-    .word 0x00737333  # and x6, x6, x7
-    .word 0x0065e5b3  # or x11, x11, x6
-    .word 0x04050313  # addi x6, x10, 64
-    .word 0x00230333  # add x6, x6, x2
-    .word 0x00434303  # lbu x6, 4(x6)
-    .word 0xffc48393  # addi x7, x9, -4
-    .word 0x0013b393  # sltiu x7, x7, 1
-    .word 0x407003b3  # sub x7, x0, x7
-    .word 0x0ff3f393  # andi x7, x7, 255
-    .word 0x00737333  # and x6, x6, x7
-    .word 0x0065e5b3  # or x11, x11, x6
-    .word 0x05050313  # addi x6, x10, 80
-    .word 0x00230333  # add x6, x6, x2
-    .word 0x00434303  # lbu x6, 4(x6)
-    .word 0xffb48393  # addi x7, x9, -5
-    .word 0x0013b393  # sltiu x7, x7, 1
-    .word 0x407003b3  # sub x7, x0, x7
-    .word 0x0ff3f393  # andi x7, x7, 255
-    .word 0x00737333  # and x6, x6, x7
-    .word 0x0065e5b3  # or x11, x11, x6
-    .word 0x06050313  # addi x6, x10, 96
-    .word 0x00230333  # add x6, x6, x2
-    .word 0x00434303  # lbu x6, 4(x6)
-    .word 0xffa48393  # addi x7, x9, -6
-    .word 0x0013b393  # sltiu x7, x7, 1
-    .word 0x407003b3  # sub x7, x0, x7
-    .word 0x0ff3f393  # andi x7, x7, 255
-    .word 0x00737333  # and x6, x6, x7
-    .word 0x0065e5b3  # or x11, x11, x6
-    .word 0x07050313  # addi x6, x10, 112
-    .word 0x00230333  # add x6, x6, x2
-    .word 0x00434303  # lbu x6, 4(x6)
-    .word 0xff948393  # addi x7, x9, -7
-    .word 0x0013b393  # sltiu x7, x7, 1
-    .word 0x407003b3  # sub x7, x0, x7
-    .word 0x0ff3f393  # andi x7, x7, 255
-    .word 0x00737333  # and x6, x6, x7
-    .word 0x0065e5b3  # or x11, x11, x6
-    .word 0x08050313  # addi x6, x10, 128
-    .word 0x00230333  # add x6, x6, x2
-    .word 0x00434303  # lbu x6, 4(x6)
-    .word 0xff848393  # addi x7, x9, -8
-    .word 0x0013b393  # sltiu x7, x7, 1
-    .word 0x407003b3  # sub x7, x0, x7
-    .word 0x0ff3f393  # andi x7, x7, 255
-    .word 0x00737333  # and x6, x6, x7
-    .word 0x0065e5b3  # or x11, x11, x6
-    .word 0x09050313  # addi x6, x10, 144
-    .word 0x00230333  # add x6, x6, x2
-    .word 0x00434303  # lbu x6, 4(x6)
-    .word 0xff748393  # addi x7, x9, -9
-    .word 0x0013b393  # sltiu x7, x7, 1
-    .word 0x407003b3  # sub x7, x0, x7
-    .word 0x0ff3f393  # andi x7, x7, 255
-    .word 0x00737333  # and x6, x6, x7
-    .word 0x0065e5b3  # or x11, x11, x6
-    .word 0x0a050313  # addi x6, x10, 160
-    .word 0x00230333  # add x6, x6, x2
-    .word 0x00434303  # lbu x6, 4(x6)
-    .word 0xff648393  # addi x7, x9, -10
-    .word 0x0013b393  # sltiu x7, x7, 1
-    .word 0x407003b3  # sub x7, x0, x7
-    .word 0x0ff3f393  # andi x7, x7, 255
-    .word 0x00737333  # and x6, x6, x7
-    .word 0x0065e5b3  # or x11, x11, x6
-    .word 0x0b050313  # addi x6, x10, 176
-    .word 0x00230333  # add x6, x6, x2
-    .word 0x00434303  # lbu x6, 4(x6)
-    .word 0xff548393  # addi x7, x9, -11
-    .word 0x0013b393  # sltiu x7, x7, 1
-    .word 0x407003b3  # sub x7, x0, x7
-    .word 0x0ff3f393  # andi x7, x7, 255
-    .word 0x00737333  # and x6, x6, x7
-    .word 0x0065e5b3  # or x11, x11, x6
-    .word 0x0c050313  # addi x6, x10, 192
-    .word 0x00230333  # add x6, x6, x2
-    .word 0x00434303  # lbu x6, 4(x6)
-    .word 0xff448393  # addi x7, x9, -12
-    .word 0x0013b393  # sltiu x7, x7, 1
-    .word 0x407003b3  # sub x7, x0, x7
-    .word 0x0ff3f393  # andi x7, x7, 255
-    .word 0x00737333  # and x6, x6, x7
-    .word 0x0065e5b3  # or x11, x11, x6
-    .word 0x0d050313  # addi x6, x10, 208
-    .word 0x00230333  # add x6, x6, x2
-    .word 0x00434303  # lbu x6, 4(x6)
-    .word 0xff348393  # addi x7, x9, -13
-    .word 0x0013b393  # sltiu x7, x7, 1
-    .word 0x407003b3  # sub x7, x0, x7
-    .word 0x0ff3f393  # andi x7, x7, 255
-    .word 0x00737333  # and x6, x6, x7
-    .word 0x0065e5b3  # or x11, x11, x6
-    .word 0x0e050313  # addi x6, x10, 224
-    .word 0x00230333  # add x6, x6, x2
-    .word 0x00434303  # lbu x6, 4(x6)
-    .word 0xff248393  # addi x7, x9, -14
-    .word 0x0013b393  # sltiu x7, x7, 1
-    .word 0x407003b3  # sub x7, x0, x7
-    .word 0x0ff3f393  # andi x7, x7, 255
-    .word 0x00737333  # and x6, x6, x7
-    .word 0x0065e5b3  # or x11, x11, x6
-    .word 0x0f050313  # addi x6, x10, 240
-    .word 0x00230333  # add x6, x6, x2
-    .word 0x00434303  # lbu x6, 4(x6)
-    .word 0xff148393  # addi x7, x9, -15
-    .word 0x0013b393  # sltiu x7, x7, 1
-    .word 0x407003b3  # sub x7, x0, x7
-    .word 0x0ff3f393  # andi x7, x7, 255
-    .word 0x00737333  # and x6, x6, x7
-    .word 0x0065e5b3  # or x11, x11, x6
-    .word 0x10b60223  # sb x11, 260(x12)
+    .word 0x00451593  # slli x11, x10, 4
+    .word 0x002586b3  # add x13, x11, x2
+    .word 0x409502b3  # sub x5, x10, x9
+    .word 0x0012b293  # sltiu x5, x5, 1
+    .word 0x40500633  # sub x12, x0, x5
+    .word 0x10414283  # lbu x5, 260(x2)
+    .word 0x0046c303  # lbu x6, 4(x13)
+    .word 0x00c37333  # and x6, x6, x12
+    .word 0x0062e2b3  # or x5, x5, x6
+    .word 0x10510223  # sb x5, 260(x2)
+    .word 0x10514283  # lbu x5, 261(x2)
+    .word 0x0056c303  # lbu x6, 5(x13)
+    .word 0x00c37333  # and x6, x6, x12
+    .word 0x0062e2b3  # or x5, x5, x6
+    .word 0x105102a3  # sb x5, 261(x2)
+    .word 0x10614283  # lbu x5, 262(x2)
+    .word 0x0066c303  # lbu x6, 6(x13)
+    .word 0x00c37333  # and x6, x6, x12
+    .word 0x0062e2b3  # or x5, x5, x6
+    .word 0x10510323  # sb x5, 262(x2)
+    .word 0x10714283  # lbu x5, 263(x2)
+    .word 0x0076c303  # lbu x6, 7(x13)
+    .word 0x00c37333  # and x6, x6, x12
+    .word 0x0062e2b3  # or x5, x5, x6
+    .word 0x105103a3  # sb x5, 263(x2)
+    .word 0x10814283  # lbu x5, 264(x2)
+    .word 0x0086c303  # lbu x6, 8(x13)
+    .word 0x00c37333  # and x6, x6, x12
+    .word 0x0062e2b3  # or x5, x5, x6
+    .word 0x10510423  # sb x5, 264(x2)
+    .word 0x10914283  # lbu x5, 265(x2)
+    .word 0x0096c303  # lbu x6, 9(x13)
+    .word 0x00c37333  # and x6, x6, x12
+    .word 0x0062e2b3  # or x5, x5, x6
+    .word 0x105104a3  # sb x5, 265(x2)
+    .word 0x10a14283  # lbu x5, 266(x2)
+    .word 0x00a6c303  # lbu x6, 10(x13)
+    .word 0x00c37333  # and x6, x6, x12
+    .word 0x0062e2b3  # or x5, x5, x6
+    .word 0x10510523  # sb x5, 266(x2)
+    .word 0x10b14283  # lbu x5, 267(x2)
+    .word 0x00b6c303  # lbu x6, 11(x13)
+    .word 0x00c37333  # and x6, x6, x12
+    .word 0x0062e2b3  # or x5, x5, x6
+    .word 0x105105a3  # sb x5, 267(x2)
+    .word 0x10c14283  # lbu x5, 268(x2)
+    .word 0x00c6c303  # lbu x6, 12(x13)
+    .word 0x00c37333  # and x6, x6, x12
+    .word 0x0062e2b3  # or x5, x5, x6
+    .word 0x10510623  # sb x5, 268(x2)
+    .word 0x10d14283  # lbu x5, 269(x2)
+    .word 0x00d6c303  # lbu x6, 13(x13)
+    .word 0x00c37333  # and x6, x6, x12
+    .word 0x0062e2b3  # or x5, x5, x6
+    .word 0x105106a3  # sb x5, 269(x2)
+    .word 0x10e14283  # lbu x5, 270(x2)
+    .word 0x00e6c303  # lbu x6, 14(x13)
+    .word 0x00c37333  # and x6, x6, x12
+    .word 0x0062e2b3  # or x5, x5, x6
+    .word 0x10510723  # sb x5, 270(x2)
+    .word 0x10f14283  # lbu x5, 271(x2)
+    .word 0x00f6c303  # lbu x6, 15(x13)
+    .word 0x00c37333  # and x6, x6, x12
+    .word 0x0062e2b3  # or x5, x5, x6
+    .word 0x105107a3  # sb x5, 271(x2)
+    .word 0x11014283  # lbu x5, 272(x2)
+    .word 0x0106c303  # lbu x6, 16(x13)
+    .word 0x00c37333  # and x6, x6, x12
+    .word 0x0062e2b3  # or x5, x5, x6
+    .word 0x10510823  # sb x5, 272(x2)
+    .word 0x11114283  # lbu x5, 273(x2)
+    .word 0x0116c303  # lbu x6, 17(x13)
+    .word 0x00c37333  # and x6, x6, x12
+    .word 0x0062e2b3  # or x5, x5, x6
+    .word 0x105108a3  # sb x5, 273(x2)
+    .word 0x11214283  # lbu x5, 274(x2)
+    .word 0x0126c303  # lbu x6, 18(x13)
+    .word 0x00c37333  # and x6, x6, x12
+    .word 0x0062e2b3  # or x5, x5, x6
+    .word 0x10510923  # sb x5, 274(x2)
+    .word 0x11314283  # lbu x5, 275(x2)
+    .word 0x0136c303  # lbu x6, 19(x13)
+    .word 0x00c37333  # and x6, x6, x12
+    .word 0x0062e2b3  # or x5, x5, x6
+    .word 0x105109a3  # sb x5, 275(x2)
     .word 0x00150513  # addi x10, x10, 1
-    .word 0x00250633  # add x12, x10, x2
     .word 0x01053293  # sltiu x5, x10, 16
-    .word 0xdc0290e3  # bne x5, x0, -576
+    .word 0xea0292e3  # bne x5, x0, -348
     .word 0xfff50513  # addi x10, x10, -1
-    .word 0x00250633  # add x12, x10, x2
     # the result
     .word 0x00000513  # addi x10, x0, 0
     # parameter 2: the array, back
     .word 0x12c12283  # lw x5, 300(x2)
     .word 0x10410313  # addi x6, x2, 260
     .word 0x0032fe13  # andi x28, x5, 3
-    .word 0x020e0e63  # beq x28, x0, 60
+    .word 0x020e0263  # beq x28, x0, 36
     .word 0x01000393  # addi x7, x0, 16
     .word 0x005383b3  # add x7, x7, x5
     .word 0x00034e03  # lbu x28, 0(x6)
     .word 0x01c28023  # sb x28, 0(x5)
-    .word 0x00134e03  # lbu x28, 1(x6)
-    .word 0x01c280a3  # sb x28, 1(x5)
-    .word 0x00234e03  # lbu x28, 2(x6)
-    .word 0x01c28123  # sb x28, 2(x5)
-    .word 0x00334e03  # lbu x28, 3(x6)
-    .word 0x01c281a3  # sb x28, 3(x5)
-    .word 0x00428293  # addi x5, x5, 4
-    .word 0x00430313  # addi x6, x6, 4
-    .word 0xfc729ce3  # bne x5, x7, -40
+    .word 0x00128293  # addi x5, x5, 1
+    .word 0x00130313  # addi x6, x6, 1
+    .word 0xfe7298e3  # bne x5, x7, -16
     .word 0x0240006f  # jal x0, 36
     .word 0x00032e03  # lw x28, 0(x6)
     .word 0x01c2a023  # sw x28, 0(x5)
@@ -261,15 +199,7 @@ lookup_bytes_16:
     .word 0x00012223  # sw x0, 4(x2)
     .word 0x00012423  # sw x0, 8(x2)
     .word 0x00012623  # sw x0, 12(x2)
-    .word 0x00012823  # sw x0, 16(x2)
-    .word 0x00012a23  # sw x0, 20(x2)
-    .word 0x00012c23  # sw x0, 24(x2)
-    .word 0x00012e23  # sw x0, 28(x2)
-    .word 0x02012023  # sw x0, 32(x2)
-    .word 0x02012223  # sw x0, 36(x2)
-    .word 0x02012423  # sw x0, 40(x2)
-    .word 0x02012623  # sw x0, 44(x2)
-    .word 0x03010113  # addi x2, x2, 48
+    .word 0x01010113  # addi x2, x2, 16
     .word 0x00012023  # sw x0, 0(x2)
     .word 0x00012223  # sw x0, 4(x2)
     .word 0x00012423  # sw x0, 8(x2)
@@ -278,16 +208,8 @@ lookup_bytes_16:
     .word 0x00012a23  # sw x0, 20(x2)
     .word 0x00012c23  # sw x0, 24(x2)
     .word 0x00012e23  # sw x0, 28(x2)
-    .word 0x02012023  # sw x0, 32(x2)
-    .word 0x02012223  # sw x0, 36(x2)
-    .word 0x02012423  # sw x0, 40(x2)
-    .word 0x02012623  # sw x0, 44(x2)
-    .word 0x02012823  # sw x0, 48(x2)
-    .word 0x02012a23  # sw x0, 52(x2)
-    .word 0x02012c23  # sw x0, 56(x2)
-    .word 0x02012e23  # sw x0, 60(x2)
-    .word 0x04010113  # addi x2, x2, 64
-    .word 0xfa511ee3  # bne x2, x5, -68
+    .word 0x02010113  # addi x2, x2, 32
+    .word 0xfc511ee3  # bne x2, x5, -36
     .cfi_def_cfa 2, 0
     # temporaries, wiped
     .word 0x00000293  # addi x5, x0, 0

@@ -1,4 +1,4 @@
-# minimum_maximum_16: made by factc 1.0.0 function; 251 words, 96 bytes of stack, profile 1
+# minimum_maximum_16: made by factc 1.0.0 function; 123 words, 112 bytes of stack, profile 1
     .option push
     .option norvc
     .option norelax
@@ -21,8 +21,8 @@ minimum_maximum_16:
     .word 0x00a12423  # sw x10, 8(x2)
     .word 0x00b12623  # sw x11, 12(x2)
     # the frame's base
-    .word 0xfb010113  # addi x2, x2, -80
-    .cfi_def_cfa 2, 96
+    .word 0xfa010113  # addi x2, x2, -96
+    .cfi_def_cfa 2, 112
     # parameter 0: an array
     .word 0x00050293  # addi x5, x10, 0
     .word 0x00010313  # addi x6, x2, 0
@@ -36,198 +36,82 @@ minimum_maximum_16:
     .word 0x01c32423  # sw x28, 8(x6)
     .word 0x00c2ae03  # lw x28, 12(x5)
     .word 0x01c32623  # sw x28, 12(x6)
-    .word 0x0102ae03  # lw x28, 16(x5)
-    .word 0x01c32823  # sw x28, 16(x6)
-    .word 0x0142ae03  # lw x28, 20(x5)
-    .word 0x01c32a23  # sw x28, 20(x6)
-    .word 0x0182ae03  # lw x28, 24(x5)
-    .word 0x01c32c23  # sw x28, 24(x6)
-    .word 0x01c2ae03  # lw x28, 28(x5)
-    .word 0x01c32e23  # sw x28, 28(x6)
-    .word 0x02028293  # addi x5, x5, 32
-    .word 0x02030313  # addi x6, x6, 32
-    .word 0xfa729ce3  # bne x5, x7, -72
+    .word 0x01028293  # addi x5, x5, 16
+    .word 0x01030313  # addi x6, x6, 16
+    .word 0xfc729ce3  # bne x5, x7, -40
     # the body
+    .word 0x00000513  # addi x10, x0, 0
+    .word 0x00000593  # addi x11, x0, 0
+    .word 0x00000613  # addi x12, x0, 0
+    .word 0x00261693  # slli x13, x12, 2
+    .word 0x002686b3  # add x13, x13, x2
     .word 0x00012403  # lw x8, 0(x2)
     .word 0x00040493  # addi x9, x8, 0
-    .word 0x00412503  # lw x10, 4(x2)
-    .word 0x008532b3  # sltu x5, x10, x8
+    .word 0x00000513  # addi x10, x0, 0
+    .word 0x00251613  # slli x12, x10, 2
+    .word 0x00261693  # slli x13, x12, 2
+    .word 0x002686b3  # add x13, x13, x2
+    .word 0x0006a583  # lw x11, 0(x13)
+    .word 0x0085b2b3  # sltu x5, x11, x8
     .word 0x405002b3  # sub x5, x0, x5
-    .word 0x00854333  # xor x6, x10, x8
+    .word 0x0085c333  # xor x6, x11, x8
     .word 0x00537333  # and x6, x6, x5
     .word 0x00644433  # xor x8, x8, x6
-    .word 0x00a4b2b3  # sltu x5, x9, x10
+    .word 0x00b4b2b3  # sltu x5, x9, x11
     .word 0x405002b3  # sub x5, x0, x5
-    .word 0x00954333  # xor x6, x10, x9
+    .word 0x0095c333  # xor x6, x11, x9
     .word 0x00537333  # and x6, x6, x5
     .word 0x0064c4b3  # xor x9, x9, x6
-    .word 0x00812503  # lw x10, 8(x2)
-    .word 0x008532b3  # sltu x5, x10, x8
+    .word 0x0046a583  # lw x11, 4(x13)
+    .word 0x0085b2b3  # sltu x5, x11, x8
     .word 0x405002b3  # sub x5, x0, x5
-    .word 0x00854333  # xor x6, x10, x8
+    .word 0x0085c333  # xor x6, x11, x8
     .word 0x00537333  # and x6, x6, x5
     .word 0x00644433  # xor x8, x8, x6
-    .word 0x00a4b2b3  # sltu x5, x9, x10
+    .word 0x00b4b2b3  # sltu x5, x9, x11
     .word 0x405002b3  # sub x5, x0, x5
-    .word 0x00954333  # xor x6, x10, x9
+    .word 0x0095c333  # xor x6, x11, x9
     .word 0x00537333  # and x6, x6, x5
     .word 0x0064c4b3  # xor x9, x9, x6
-    .word 0x00c12503  # lw x10, 12(x2)
-    .word 0x008532b3  # sltu x5, x10, x8
+    .word 0x0086a583  # lw x11, 8(x13)
+    .word 0x0085b2b3  # sltu x5, x11, x8
     .word 0x405002b3  # sub x5, x0, x5
-    .word 0x00854333  # xor x6, x10, x8
+    .word 0x0085c333  # xor x6, x11, x8
     .word 0x00537333  # and x6, x6, x5
     .word 0x00644433  # xor x8, x8, x6
-    .word 0x00a4b2b3  # sltu x5, x9, x10
+    .word 0x00b4b2b3  # sltu x5, x9, x11
     .word 0x405002b3  # sub x5, x0, x5
-    .word 0x00954333  # xor x6, x10, x9
+    .word 0x0095c333  # xor x6, x11, x9
     .word 0x00537333  # and x6, x6, x5
     .word 0x0064c4b3  # xor x9, x9, x6
-    .word 0x01012503  # lw x10, 16(x2)
-    .word 0x008532b3  # sltu x5, x10, x8
+    .word 0x00c6a583  # lw x11, 12(x13)
+    .word 0x0085b2b3  # sltu x5, x11, x8
     .word 0x405002b3  # sub x5, x0, x5
-    .word 0x00854333  # xor x6, x10, x8
+    .word 0x0085c333  # xor x6, x11, x8
     .word 0x00537333  # and x6, x6, x5
     .word 0x00644433  # xor x8, x8, x6
-    .word 0x00a4b2b3  # sltu x5, x9, x10
+    .word 0x00b4b2b3  # sltu x5, x9, x11
     .word 0x405002b3  # sub x5, x0, x5
-    .word 0x00954333  # xor x6, x10, x9
+    .word 0x0095c333  # xor x6, x11, x9
     .word 0x00537333  # and x6, x6, x5
     .word 0x0064c4b3  # xor x9, x9, x6
-    .word 0x01412503  # lw x10, 20(x2)
-    .word 0x008532b3  # sltu x5, x10, x8
-    .word 0x405002b3  # sub x5, x0, x5
-    .word 0x00854333  # xor x6, x10, x8
-    .word 0x00537333  # and x6, x6, x5
-    .word 0x00644433  # xor x8, x8, x6
-    .word 0x00a4b2b3  # sltu x5, x9, x10
-    .word 0x405002b3  # sub x5, x0, x5
-    .word 0x00954333  # xor x6, x10, x9
-    .word 0x00537333  # and x6, x6, x5
-    .word 0x0064c4b3  # xor x9, x9, x6
-    .word 0x01812503  # lw x10, 24(x2)
-    .word 0x008532b3  # sltu x5, x10, x8
-    .word 0x405002b3  # sub x5, x0, x5
-    .word 0x00854333  # xor x6, x10, x8
-    .word 0x00537333  # and x6, x6, x5
-    .word 0x00644433  # xor x8, x8, x6
-    .word 0x00a4b2b3  # sltu x5, x9, x10
-    .word 0x405002b3  # sub x5, x0, x5
-    .word 0x00954333  # xor x6, x10, x9
-    .word 0x00537333  # and x6, x6, x5
-    .word 0x0064c4b3  # xor x9, x9, x6
-    .word 0x01c12503  # lw x10, 28(x2)
-    .word 0x008532b3  # sltu x5, x10, x8
-    .word 0x405002b3  # sub x5, x0, x5
-    .word 0x00854333  # xor x6, x10, x8
-    .word 0x00537333  # and x6, x6, x5
-    .word 0x00644433  # xor x8, x8, x6
-    .word 0x00a4b2b3  # sltu x5, x9, x10
-    .word 0x405002b3  # sub x5, x0, x5
-    .word 0x00954333  # xor x6, x10, x9
-    .word 0x00537333  # and x6, x6, x5
-    .word 0x0064c4b3  # xor x9, x9, x6
-    .word 0x02012503  # lw x10, 32(x2)
-    .word 0x008532b3  # sltu x5, x10, x8
-    .word 0x405002b3  # sub x5, x0, x5
-    .word 0x00854333  # xor x6, x10, x8
-    .word 0x00537333  # and x6, x6, x5
-    .word 0x00644433  # xor x8, x8, x6
-    .word 0x00a4b2b3  # sltu x5, x9, x10
-    .word 0x405002b3  # sub x5, x0, x5
-    .word 0x00954333  # xor x6, x10, x9
-    .word 0x00537333  # and x6, x6, x5
-    .word 0x0064c4b3  # xor x9, x9, x6
-    .word 0x02412503  # lw x10, 36(x2)
-    .word 0x008532b3  # sltu x5, x10, x8
-    .word 0x405002b3  # sub x5, x0, x5
-    .word 0x00854333  # xor x6, x10, x8
-    .word 0x00537333  # and x6, x6, x5
-    .word 0x00644433  # xor x8, x8, x6
-    .word 0x00a4b2b3  # sltu x5, x9, x10
-    .word 0x405002b3  # sub x5, x0, x5
-    .word 0x00954333  # xor x6, x10, x9
-    .word 0x00537333  # and x6, x6, x5
-    .word 0x0064c4b3  # xor x9, x9, x6
-    .word 0x02812503  # lw x10, 40(x2)
-    .word 0x008532b3  # sltu x5, x10, x8
-    .word 0x405002b3  # sub x5, x0, x5
-    .word 0x00854333  # xor x6, x10, x8
-    .word 0x00537333  # and x6, x6, x5
-    .word 0x00644433  # xor x8, x8, x6
-    .word 0x00a4b2b3  # sltu x5, x9, x10
-    .word 0x405002b3  # sub x5, x0, x5
-    .word 0x00954333  # xor x6, x10, x9
-    .word 0x00537333  # and x6, x6, x5
-    .word 0x0064c4b3  # xor x9, x9, x6
-    .word 0x02c12503  # lw x10, 44(x2)
-    .word 0x008532b3  # sltu x5, x10, x8
-    .word 0x405002b3  # sub x5, x0, x5
-    .word 0x00854333  # xor x6, x10, x8
-    .word 0x00537333  # and x6, x6, x5
-    .word 0x00644433  # xor x8, x8, x6
-    .word 0x00a4b2b3  # sltu x5, x9, x10
-    .word 0x405002b3  # sub x5, x0, x5
-    .word 0x00954333  # xor x6, x10, x9
-    .word 0x00537333  # and x6, x6, x5
-    .word 0x0064c4b3  # xor x9, x9, x6
-    .word 0x03012503  # lw x10, 48(x2)
-    .word 0x008532b3  # sltu x5, x10, x8
-    .word 0x405002b3  # sub x5, x0, x5
-    .word 0x00854333  # xor x6, x10, x8
-    .word 0x00537333  # and x6, x6, x5
-    .word 0x00644433  # xor x8, x8, x6
-    .word 0x00a4b2b3  # sltu x5, x9, x10
-    .word 0x405002b3  # sub x5, x0, x5
-    .word 0x00954333  # xor x6, x10, x9
-    .word 0x00537333  # and x6, x6, x5
-    .word 0x0064c4b3  # xor x9, x9, x6
-    .word 0x03412503  # lw x10, 52(x2)
-    .word 0x008532b3  # sltu x5, x10, x8
-    .word 0x405002b3  # sub x5, x0, x5
-    .word 0x00854333  # xor x6, x10, x8
-    .word 0x00537333  # and x6, x6, x5
-    .word 0x00644433  # xor x8, x8, x6
-    .word 0x00a4b2b3  # sltu x5, x9, x10
-    .word 0x405002b3  # sub x5, x0, x5
-    .word 0x00954333  # xor x6, x10, x9
-    .word 0x00537333  # and x6, x6, x5
-    .word 0x0064c4b3  # xor x9, x9, x6
-    .word 0x03812503  # lw x10, 56(x2)
-    .word 0x008532b3  # sltu x5, x10, x8
-    .word 0x405002b3  # sub x5, x0, x5
-    .word 0x00854333  # xor x6, x10, x8
-    .word 0x00537333  # and x6, x6, x5
-    .word 0x00644433  # xor x8, x8, x6
-    .word 0x00a4b2b3  # sltu x5, x9, x10
-    .word 0x405002b3  # sub x5, x0, x5
-    .word 0x00954333  # xor x6, x10, x9
-    .word 0x00537333  # and x6, x6, x5
-    .word 0x0064c4b3  # xor x9, x9, x6
-    .word 0x03c12503  # lw x10, 60(x2)
-    .word 0x008532b3  # sltu x5, x10, x8
-    .word 0x405002b3  # sub x5, x0, x5
-    .word 0x00854333  # xor x6, x10, x8
-    .word 0x00537333  # and x6, x6, x5
-    .word 0x00644433  # xor x8, x8, x6
-    .word 0x00a4b2b3  # sltu x5, x9, x10
-    .word 0x405002b3  # sub x5, x0, x5
-    .word 0x00954333  # xor x6, x10, x9
-    .word 0x00537333  # and x6, x6, x5
-    .word 0x0064c4b3  # xor x9, x9, x6
+    .word 0x00150513  # addi x10, x10, 1
+    .word 0x00453293  # sltiu x5, x10, 4
+    .word 0xf2029ee3  # bne x5, x0, -196
+    .word 0xfff50513  # addi x10, x10, -1
     .word 0x04812023  # sw x8, 64(x2)
     .word 0x04912223  # sw x9, 68(x2)
     # the result
     .word 0x00000513  # addi x10, x0, 0
     # parameter 1: the array, back
-    .word 0x05c12283  # lw x5, 92(x2)
+    .word 0x06c12283  # lw x5, 108(x2)
     .word 0x04010313  # addi x6, x2, 64
     .word 0x00032e03  # lw x28, 0(x6)
     .word 0x01c2a023  # sw x28, 0(x5)
     .word 0x00432e03  # lw x28, 4(x6)
     .word 0x01c2a223  # sw x28, 4(x5)
     # above the frame
-    .word 0x05010293  # addi x5, x2, 80
+    .word 0x06010293  # addi x5, x2, 96
     # the caller's registers
     .word 0x0002a403  # lw x8, 0(x5)
     .cfi_restore 8
@@ -241,11 +125,7 @@ minimum_maximum_16:
     .word 0x00012223  # sw x0, 4(x2)
     .word 0x00012423  # sw x0, 8(x2)
     .word 0x00012623  # sw x0, 12(x2)
-    .word 0x00012823  # sw x0, 16(x2)
-    .word 0x00012a23  # sw x0, 20(x2)
-    .word 0x00012c23  # sw x0, 24(x2)
-    .word 0x00012e23  # sw x0, 28(x2)
-    .word 0x02010113  # addi x2, x2, 32
+    .word 0x01010113  # addi x2, x2, 16
     .word 0x00012023  # sw x0, 0(x2)
     .word 0x00012223  # sw x0, 4(x2)
     .word 0x00012423  # sw x0, 8(x2)
@@ -254,16 +134,8 @@ minimum_maximum_16:
     .word 0x00012a23  # sw x0, 20(x2)
     .word 0x00012c23  # sw x0, 24(x2)
     .word 0x00012e23  # sw x0, 28(x2)
-    .word 0x02012023  # sw x0, 32(x2)
-    .word 0x02012223  # sw x0, 36(x2)
-    .word 0x02012423  # sw x0, 40(x2)
-    .word 0x02012623  # sw x0, 44(x2)
-    .word 0x02012823  # sw x0, 48(x2)
-    .word 0x02012a23  # sw x0, 52(x2)
-    .word 0x02012c23  # sw x0, 56(x2)
-    .word 0x02012e23  # sw x0, 60(x2)
-    .word 0x04010113  # addi x2, x2, 64
-    .word 0xfa511ee3  # bne x2, x5, -68
+    .word 0x02010113  # addi x2, x2, 32
+    .word 0xfc511ee3  # bne x2, x5, -36
     .cfi_def_cfa 2, 0
     # temporaries, wiped
     .word 0x00000293  # addi x5, x0, 0

@@ -1,4 +1,4 @@
-# mlkem_decode_12: made by factc 1.0.0 function; 212 words, 928 bytes of stack, profile 1
+# mlkem_decode_12: made by factc 1.0.0 function; 180 words, 944 bytes of stack, profile 1
     .option push
     .option norvc
     .option norelax
@@ -10,38 +10,34 @@
 mlkem_decode_12:
     .cfi_startproc
     # room above the frame
-    .word 0xff010113  # addi x2, x2, -16
-    .cfi_def_cfa_offset 16
+    .word 0xfe010113  # addi x2, x2, -32
+    .cfi_def_cfa_offset 32
     # the caller's registers
     .word 0x00812023  # sw x8, 0(x2)
-    .cfi_offset 8, -16
+    .cfi_offset 8, -32
     .word 0x00912223  # sw x9, 4(x2)
-    .cfi_offset 9, -12
+    .cfi_offset 9, -28
+    .word 0x01212423  # sw x18, 8(x2)
+    .cfi_offset 18, -24
     # arguments that are needed behind the body
-    .word 0x00a12423  # sw x10, 8(x2)
-    .word 0x00b12623  # sw x11, 12(x2)
+    .word 0x00a12c23  # sw x10, 24(x2)
+    .word 0x00b12e23  # sw x11, 28(x2)
     # the frame's base
     .word 0xc7010113  # addi x2, x2, -912
-    .cfi_def_cfa 2, 928
+    .cfi_def_cfa 2, 944
     # parameter 0: an array
     .word 0x00050293  # addi x5, x10, 0
     .word 0x00010313  # addi x6, x2, 0
     .word 0x0032fe13  # andi x28, x5, 3
-    .word 0x020e0e63  # beq x28, x0, 60
+    .word 0x020e0263  # beq x28, x0, 36
     .word 0x18000393  # addi x7, x0, 384
     .word 0x005383b3  # add x7, x7, x5
     .word 0x0002ce03  # lbu x28, 0(x5)
     .word 0x01c30023  # sb x28, 0(x6)
-    .word 0x0012ce03  # lbu x28, 1(x5)
-    .word 0x01c300a3  # sb x28, 1(x6)
-    .word 0x0022ce03  # lbu x28, 2(x5)
-    .word 0x01c30123  # sb x28, 2(x6)
-    .word 0x0032ce03  # lbu x28, 3(x5)
-    .word 0x01c301a3  # sb x28, 3(x6)
-    .word 0x00428293  # addi x5, x5, 4
-    .word 0x00430313  # addi x6, x6, 4
-    .word 0xfc729ce3  # bne x5, x7, -40
-    .word 0x0580006f  # jal x0, 88
+    .word 0x00128293  # addi x5, x5, 1
+    .word 0x00130313  # addi x6, x6, 1
+    .word 0xfe7298e3  # bne x5, x7, -16
+    .word 0x0380006f  # jal x0, 56
     .word 0x18000393  # addi x7, x0, 384
     .word 0x005383b3  # add x7, x7, x5
     .word 0x0002ae03  # lw x28, 0(x5)
@@ -52,36 +48,22 @@ mlkem_decode_12:
     .word 0x01c32423  # sw x28, 8(x6)
     .word 0x00c2ae03  # lw x28, 12(x5)
     .word 0x01c32623  # sw x28, 12(x6)
-    .word 0x0102ae03  # lw x28, 16(x5)
-    .word 0x01c32823  # sw x28, 16(x6)
-    .word 0x0142ae03  # lw x28, 20(x5)
-    .word 0x01c32a23  # sw x28, 20(x6)
-    .word 0x0182ae03  # lw x28, 24(x5)
-    .word 0x01c32c23  # sw x28, 24(x6)
-    .word 0x01c2ae03  # lw x28, 28(x5)
-    .word 0x01c32e23  # sw x28, 28(x6)
-    .word 0x02028293  # addi x5, x5, 32
-    .word 0x02030313  # addi x6, x6, 32
-    .word 0xfa729ce3  # bne x5, x7, -72
+    .word 0x01028293  # addi x5, x5, 16
+    .word 0x01030313  # addi x6, x6, 16
+    .word 0xfc729ce3  # bne x5, x7, -40
     # parameter 1: an array
     .word 0x00058293  # addi x5, x11, 0
     .word 0x18010313  # addi x6, x2, 384
     .word 0x0032fe13  # andi x28, x5, 3
-    .word 0x020e0e63  # beq x28, x0, 60
+    .word 0x020e0263  # beq x28, x0, 36
     .word 0x20000393  # addi x7, x0, 512
     .word 0x005383b3  # add x7, x7, x5
     .word 0x0002de03  # lhu x28, 0(x5)
     .word 0x01c31023  # sh x28, 0(x6)
-    .word 0x0022de03  # lhu x28, 2(x5)
-    .word 0x01c31123  # sh x28, 2(x6)
-    .word 0x0042de03  # lhu x28, 4(x5)
-    .word 0x01c31223  # sh x28, 4(x6)
-    .word 0x0062de03  # lhu x28, 6(x5)
-    .word 0x01c31323  # sh x28, 6(x6)
-    .word 0x00828293  # addi x5, x5, 8
-    .word 0x00830313  # addi x6, x6, 8
-    .word 0xfc729ce3  # bne x5, x7, -40
-    .word 0x0580006f  # jal x0, 88
+    .word 0x00228293  # addi x5, x5, 2
+    .word 0x00230313  # addi x6, x6, 2
+    .word 0xfe7298e3  # bne x5, x7, -16
+    .word 0x0380006f  # jal x0, 56
     .word 0x20000393  # addi x7, x0, 512
     .word 0x005383b3  # add x7, x7, x5
     .word 0x0002ae03  # lw x28, 0(x5)
@@ -92,17 +74,9 @@ mlkem_decode_12:
     .word 0x01c32423  # sw x28, 8(x6)
     .word 0x00c2ae03  # lw x28, 12(x5)
     .word 0x01c32623  # sw x28, 12(x6)
-    .word 0x0102ae03  # lw x28, 16(x5)
-    .word 0x01c32823  # sw x28, 16(x6)
-    .word 0x0142ae03  # lw x28, 20(x5)
-    .word 0x01c32a23  # sw x28, 20(x6)
-    .word 0x0182ae03  # lw x28, 24(x5)
-    .word 0x01c32c23  # sw x28, 24(x6)
-    .word 0x01c2ae03  # lw x28, 28(x5)
-    .word 0x01c32e23  # sw x28, 28(x6)
-    .word 0x02028293  # addi x5, x5, 32
-    .word 0x02030313  # addi x6, x6, 32
-    .word 0xfa729ce3  # bne x5, x7, -72
+    .word 0x01028293  # addi x5, x5, 16
+    .word 0x01030313  # addi x6, x6, 16
+    .word 0xfc729ce3  # bne x5, x7, -40
     # the body
     .word 0x00000413  # addi x8, x0, 0
     .word 0x00000493  # addi x9, x0, 0
@@ -111,62 +85,76 @@ mlkem_decode_12:
     .word 0x00000613  # addi x12, x0, 0
     .word 0x00000693  # addi x13, x0, 0
     .word 0x00000713  # addi x14, x0, 0
-    .word 0x00248833  # add x16, x9, x2
-    .word 0x00151893  # slli x17, x10, 1
-    .word 0x002888b3  # add x17, x17, x2
-    .word 0x000017b7  # lui x15, 0x00001
-    .word 0xd0178793  # addi x15, x15, -767
+    .word 0x00000793  # addi x15, x0, 0
+    .word 0x002488b3  # add x17, x9, x2
+    .word 0x00151913  # slli x18, x10, 1
+    .word 0x00290933  # add x18, x18, x2
+    .word 0x00001837  # lui x16, 0x00001
+    .word 0xd0180813  # addi x16, x16, -767
     .word 0x00000413  # addi x8, x0, 0
-    .word 0x00300293  # addi x5, x0, 3
+    .word 0x00600293  # addi x5, x0, 6
     .word 0x028284b3  # mul x9, x5, x8
-    .word 0x00248833  # add x16, x9, x2
-    .word 0x00141513  # slli x10, x8, 1
-    .word 0x00151893  # slli x17, x10, 1
-    .word 0x002888b3  # add x17, x17, x2
-    .word 0x00084683  # lbu x13, 0(x16)
-    .word 0x00184583  # lbu x11, 1(x16)
-    .word 0x00284603  # lbu x12, 2(x16)
+    .word 0x002488b3  # add x17, x9, x2
+    .word 0x00241513  # slli x10, x8, 2
+    .word 0x00151913  # slli x18, x10, 1
+    .word 0x00290933  # add x18, x18, x2
+    .word 0x0018c583  # lbu x11, 1(x17)
+    .word 0x0048c603  # lbu x12, 4(x17)
+    .word 0x0008c283  # lbu x5, 0(x17)
     .word 0x00f5f313  # andi x6, x11, 15
     .word 0x00831313  # slli x6, x6, 8
-    .word 0x0066e6b3  # or x13, x13, x6
-    .word 0x40f686b3  # sub x13, x13, x15
+    .word 0x0062e6b3  # or x13, x5, x6
+    .word 0x410686b3  # sub x13, x13, x16
     .word 0x0106d293  # srli x5, x13, 16
-    .word 0x00f2f733  # and x14, x5, x15
+    .word 0x0102f733  # and x14, x5, x16
     .word 0x00e686b3  # add x13, x13, x14
     .word 0x0045d293  # srli x5, x11, 4
-    .word 0x00461313  # slli x6, x12, 4
+    .word 0x0028c303  # lbu x6, 2(x17)
+    .word 0x00431313  # slli x6, x6, 4
     .word 0x0062e5b3  # or x11, x5, x6
-    .word 0x40f585b3  # sub x11, x11, x15
+    .word 0x410585b3  # sub x11, x11, x16
     .word 0x0105d293  # srli x5, x11, 16
-    .word 0x00f2f633  # and x12, x5, x15
+    .word 0x0102f733  # and x14, x5, x16
+    .word 0x00e58733  # add x14, x11, x14
+    .word 0x0038c283  # lbu x5, 3(x17)
+    .word 0x00f67313  # andi x6, x12, 15
+    .word 0x00831313  # slli x6, x6, 8
+    .word 0x0062e5b3  # or x11, x5, x6
+    .word 0x410585b3  # sub x11, x11, x16
+    .word 0x0105d293  # srli x5, x11, 16
+    .word 0x0102f7b3  # and x15, x5, x16
+    .word 0x00f587b3  # add x15, x11, x15
+    .word 0x00465293  # srli x5, x12, 4
+    .word 0x0058c303  # lbu x6, 5(x17)
+    .word 0x00431313  # slli x6, x6, 4
+    .word 0x0062e5b3  # or x11, x5, x6
+    .word 0x410585b3  # sub x11, x11, x16
+    .word 0x0105d293  # srli x5, x11, 16
+    .word 0x0102f633  # and x12, x5, x16
     .word 0x00c585b3  # add x11, x11, x12
-    .word 0x18d89023  # sh x13, 384(x17)
-    .word 0x18b89123  # sh x11, 386(x17)
+    .word 0x18d91023  # sh x13, 384(x18)
+    .word 0x18e91123  # sh x14, 386(x18)
+    .word 0x18f91223  # sh x15, 388(x18)
+    .word 0x18b91323  # sh x11, 390(x18)
     .word 0x00140413  # addi x8, x8, 1
-    .word 0x08043293  # sltiu x5, x8, 128
-    .word 0xf8029ae3  # bne x5, x0, -108
+    .word 0x04043293  # sltiu x5, x8, 64
+    .word 0xf40294e3  # bne x5, x0, -184
     .word 0xfff40413  # addi x8, x8, -1
     # the result
     .word 0x00000513  # addi x10, x0, 0
     # parameter 1: the array, back
-    .word 0x39c12283  # lw x5, 924(x2)
+    .word 0x3ac12283  # lw x5, 940(x2)
     .word 0x18010313  # addi x6, x2, 384
     .word 0x0032fe13  # andi x28, x5, 3
-    .word 0x020e0e63  # beq x28, x0, 60
+    .word 0x020e0263  # beq x28, x0, 36
     .word 0x20000393  # addi x7, x0, 512
     .word 0x005383b3  # add x7, x7, x5
     .word 0x00035e03  # lhu x28, 0(x6)
     .word 0x01c29023  # sh x28, 0(x5)
-    .word 0x00235e03  # lhu x28, 2(x6)
-    .word 0x01c29123  # sh x28, 2(x5)
-    .word 0x00435e03  # lhu x28, 4(x6)
-    .word 0x01c29223  # sh x28, 4(x5)
-    .word 0x00635e03  # lhu x28, 6(x6)
-    .word 0x01c29323  # sh x28, 6(x5)
-    .word 0x00828293  # addi x5, x5, 8
-    .word 0x00830313  # addi x6, x6, 8
-    .word 0xfc729ce3  # bne x5, x7, -40
-    .word 0x0580006f  # jal x0, 88
+    .word 0x00228293  # addi x5, x5, 2
+    .word 0x00230313  # addi x6, x6, 2
+    .word 0xfe7298e3  # bne x5, x7, -16
+    .word 0x0380006f  # jal x0, 56
     .word 0x20000393  # addi x7, x0, 512
     .word 0x005383b3  # add x7, x7, x5
     .word 0x00032e03  # lw x28, 0(x6)
@@ -177,17 +165,9 @@ mlkem_decode_12:
     .word 0x01c2a423  # sw x28, 8(x5)
     .word 0x00c32e03  # lw x28, 12(x6)
     .word 0x01c2a623  # sw x28, 12(x5)
-    .word 0x01032e03  # lw x28, 16(x6)
-    .word 0x01c2a823  # sw x28, 16(x5)
-    .word 0x01432e03  # lw x28, 20(x6)
-    .word 0x01c2aa23  # sw x28, 20(x5)
-    .word 0x01832e03  # lw x28, 24(x6)
-    .word 0x01c2ac23  # sw x28, 24(x5)
-    .word 0x01c32e03  # lw x28, 28(x6)
-    .word 0x01c2ae23  # sw x28, 28(x5)
-    .word 0x02028293  # addi x5, x5, 32
-    .word 0x02030313  # addi x6, x6, 32
-    .word 0xfa729ce3  # bne x5, x7, -72
+    .word 0x01028293  # addi x5, x5, 16
+    .word 0x01030313  # addi x6, x6, 16
+    .word 0xfc729ce3  # bne x5, x7, -40
     # above the frame
     .word 0x39010293  # addi x5, x2, 912
     # the caller's registers
@@ -195,10 +175,17 @@ mlkem_decode_12:
     .cfi_restore 8
     .word 0x0042a483  # lw x9, 4(x5)
     .cfi_restore 9
+    .word 0x0082a903  # lw x18, 8(x5)
+    .cfi_restore 18
     # the caller's x2
-    .word 0x01028293  # addi x5, x5, 16
+    .word 0x02028293  # addi x5, x5, 32
     .cfi_def_cfa 5, 0
     # all the room, wiped upward
+    .word 0x00012023  # sw x0, 0(x2)
+    .word 0x00012223  # sw x0, 4(x2)
+    .word 0x00012423  # sw x0, 8(x2)
+    .word 0x00012623  # sw x0, 12(x2)
+    .word 0x01010113  # addi x2, x2, 16
     .word 0x00012023  # sw x0, 0(x2)
     .word 0x00012223  # sw x0, 4(x2)
     .word 0x00012423  # sw x0, 8(x2)
@@ -208,24 +195,7 @@ mlkem_decode_12:
     .word 0x00012c23  # sw x0, 24(x2)
     .word 0x00012e23  # sw x0, 28(x2)
     .word 0x02010113  # addi x2, x2, 32
-    .word 0x00012023  # sw x0, 0(x2)
-    .word 0x00012223  # sw x0, 4(x2)
-    .word 0x00012423  # sw x0, 8(x2)
-    .word 0x00012623  # sw x0, 12(x2)
-    .word 0x00012823  # sw x0, 16(x2)
-    .word 0x00012a23  # sw x0, 20(x2)
-    .word 0x00012c23  # sw x0, 24(x2)
-    .word 0x00012e23  # sw x0, 28(x2)
-    .word 0x02012023  # sw x0, 32(x2)
-    .word 0x02012223  # sw x0, 36(x2)
-    .word 0x02012423  # sw x0, 40(x2)
-    .word 0x02012623  # sw x0, 44(x2)
-    .word 0x02012823  # sw x0, 48(x2)
-    .word 0x02012a23  # sw x0, 52(x2)
-    .word 0x02012c23  # sw x0, 56(x2)
-    .word 0x02012e23  # sw x0, 60(x2)
-    .word 0x04010113  # addi x2, x2, 64
-    .word 0xfa511ee3  # bne x2, x5, -68
+    .word 0xfc511ee3  # bne x2, x5, -36
     .cfi_def_cfa 2, 0
     # temporaries, wiped
     .word 0x00000293  # addi x5, x0, 0

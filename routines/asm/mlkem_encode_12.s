@@ -1,4 +1,4 @@
-# mlkem_encode_12: made by factc 1.0.0 function; 196 words, 928 bytes of stack, profile 1
+# mlkem_encode_12: made by factc 1.0.0 function; 150 words, 928 bytes of stack, profile 1
     .option push
     .option norvc
     .option norelax
@@ -25,21 +25,15 @@ mlkem_encode_12:
     .word 0x00050293  # addi x5, x10, 0
     .word 0x00010313  # addi x6, x2, 0
     .word 0x0032fe13  # andi x28, x5, 3
-    .word 0x020e0e63  # beq x28, x0, 60
+    .word 0x020e0263  # beq x28, x0, 36
     .word 0x20000393  # addi x7, x0, 512
     .word 0x005383b3  # add x7, x7, x5
     .word 0x0002de03  # lhu x28, 0(x5)
     .word 0x01c31023  # sh x28, 0(x6)
-    .word 0x0022de03  # lhu x28, 2(x5)
-    .word 0x01c31123  # sh x28, 2(x6)
-    .word 0x0042de03  # lhu x28, 4(x5)
-    .word 0x01c31223  # sh x28, 4(x6)
-    .word 0x0062de03  # lhu x28, 6(x5)
-    .word 0x01c31323  # sh x28, 6(x6)
-    .word 0x00828293  # addi x5, x5, 8
-    .word 0x00830313  # addi x6, x6, 8
-    .word 0xfc729ce3  # bne x5, x7, -40
-    .word 0x0580006f  # jal x0, 88
+    .word 0x00228293  # addi x5, x5, 2
+    .word 0x00230313  # addi x6, x6, 2
+    .word 0xfe7298e3  # bne x5, x7, -16
+    .word 0x0380006f  # jal x0, 56
     .word 0x20000393  # addi x7, x0, 512
     .word 0x005383b3  # add x7, x7, x5
     .word 0x0002ae03  # lw x28, 0(x5)
@@ -50,36 +44,22 @@ mlkem_encode_12:
     .word 0x01c32423  # sw x28, 8(x6)
     .word 0x00c2ae03  # lw x28, 12(x5)
     .word 0x01c32623  # sw x28, 12(x6)
-    .word 0x0102ae03  # lw x28, 16(x5)
-    .word 0x01c32823  # sw x28, 16(x6)
-    .word 0x0142ae03  # lw x28, 20(x5)
-    .word 0x01c32a23  # sw x28, 20(x6)
-    .word 0x0182ae03  # lw x28, 24(x5)
-    .word 0x01c32c23  # sw x28, 24(x6)
-    .word 0x01c2ae03  # lw x28, 28(x5)
-    .word 0x01c32e23  # sw x28, 28(x6)
-    .word 0x02028293  # addi x5, x5, 32
-    .word 0x02030313  # addi x6, x6, 32
-    .word 0xfa729ce3  # bne x5, x7, -72
+    .word 0x01028293  # addi x5, x5, 16
+    .word 0x01030313  # addi x6, x6, 16
+    .word 0xfc729ce3  # bne x5, x7, -40
     # parameter 1: an array
     .word 0x00058293  # addi x5, x11, 0
     .word 0x20010313  # addi x6, x2, 512
     .word 0x0032fe13  # andi x28, x5, 3
-    .word 0x020e0e63  # beq x28, x0, 60
+    .word 0x020e0263  # beq x28, x0, 36
     .word 0x18000393  # addi x7, x0, 384
     .word 0x005383b3  # add x7, x7, x5
     .word 0x0002ce03  # lbu x28, 0(x5)
     .word 0x01c30023  # sb x28, 0(x6)
-    .word 0x0012ce03  # lbu x28, 1(x5)
-    .word 0x01c300a3  # sb x28, 1(x6)
-    .word 0x0022ce03  # lbu x28, 2(x5)
-    .word 0x01c30123  # sb x28, 2(x6)
-    .word 0x0032ce03  # lbu x28, 3(x5)
-    .word 0x01c301a3  # sb x28, 3(x6)
-    .word 0x00428293  # addi x5, x5, 4
-    .word 0x00430313  # addi x6, x6, 4
-    .word 0xfc729ce3  # bne x5, x7, -40
-    .word 0x0580006f  # jal x0, 88
+    .word 0x00128293  # addi x5, x5, 1
+    .word 0x00130313  # addi x6, x6, 1
+    .word 0xfe7298e3  # bne x5, x7, -16
+    .word 0x0380006f  # jal x0, 56
     .word 0x18000393  # addi x7, x0, 384
     .word 0x005383b3  # add x7, x7, x5
     .word 0x0002ae03  # lw x28, 0(x5)
@@ -90,45 +70,50 @@ mlkem_encode_12:
     .word 0x01c32423  # sw x28, 8(x6)
     .word 0x00c2ae03  # lw x28, 12(x5)
     .word 0x01c32623  # sw x28, 12(x6)
-    .word 0x0102ae03  # lw x28, 16(x5)
-    .word 0x01c32823  # sw x28, 16(x6)
-    .word 0x0142ae03  # lw x28, 20(x5)
-    .word 0x01c32a23  # sw x28, 20(x6)
-    .word 0x0182ae03  # lw x28, 24(x5)
-    .word 0x01c32c23  # sw x28, 24(x6)
-    .word 0x01c2ae03  # lw x28, 28(x5)
-    .word 0x01c32e23  # sw x28, 28(x6)
-    .word 0x02028293  # addi x5, x5, 32
-    .word 0x02030313  # addi x6, x6, 32
-    .word 0xfa729ce3  # bne x5, x7, -72
+    .word 0x01028293  # addi x5, x5, 16
+    .word 0x01030313  # addi x6, x6, 16
+    .word 0xfc729ce3  # bne x5, x7, -40
     # the body
     .word 0x00000493  # addi x9, x0, 0
     .word 0x00000513  # addi x10, x0, 0
     .word 0x00000593  # addi x11, x0, 0
     .word 0x00000613  # addi x12, x0, 0
     .word 0x00000693  # addi x13, x0, 0
-    .word 0x00151713  # slli x14, x10, 1
-    .word 0x00270733  # add x14, x14, x2
-    .word 0x002587b3  # add x15, x11, x2
+    .word 0x00000713  # addi x14, x0, 0
+    .word 0x00000793  # addi x15, x0, 0
+    .word 0x00151813  # slli x16, x10, 1
+    .word 0x00280833  # add x16, x16, x2
+    .word 0x002588b3  # add x17, x11, x2
     .word 0x00000493  # addi x9, x0, 0
-    .word 0x00149513  # slli x10, x9, 1
-    .word 0x00151713  # slli x14, x10, 1
-    .word 0x00270733  # add x14, x14, x2
-    .word 0x009505b3  # add x11, x10, x9
-    .word 0x002587b3  # add x15, x11, x2
-    .word 0x00075603  # lhu x12, 0(x14)
-    .word 0x00275683  # lhu x13, 2(x14)
-    .word 0x20c78023  # sb x12, 512(x15)
+    .word 0x00249513  # slli x10, x9, 2
+    .word 0x00151813  # slli x16, x10, 1
+    .word 0x00280833  # add x16, x16, x2
+    .word 0x00600293  # addi x5, x0, 6
+    .word 0x029285b3  # mul x11, x5, x9
+    .word 0x002588b3  # add x17, x11, x2
+    .word 0x00085603  # lhu x12, 0(x16)
+    .word 0x00285683  # lhu x13, 2(x16)
+    .word 0x00485703  # lhu x14, 4(x16)
+    .word 0x00685783  # lhu x15, 6(x16)
+    .word 0x20c88023  # sb x12, 512(x17)
     .word 0x00865293  # srli x5, x12, 8
     .word 0x00f2f293  # andi x5, x5, 15
     .word 0x00469313  # slli x6, x13, 4
     .word 0x0062e2b3  # or x5, x5, x6
-    .word 0x205780a3  # sb x5, 513(x15)
+    .word 0x205880a3  # sb x5, 513(x17)
     .word 0x0046d293  # srli x5, x13, 4
-    .word 0x20578123  # sb x5, 514(x15)
+    .word 0x20588123  # sb x5, 514(x17)
+    .word 0x20e881a3  # sb x14, 515(x17)
+    .word 0x00875293  # srli x5, x14, 8
+    .word 0x00f2f293  # andi x5, x5, 15
+    .word 0x00479313  # slli x6, x15, 4
+    .word 0x0062e2b3  # or x5, x5, x6
+    .word 0x20588223  # sb x5, 516(x17)
+    .word 0x0047d293  # srli x5, x15, 4
+    .word 0x205882a3  # sb x5, 517(x17)
     .word 0x00148493  # addi x9, x9, 1
-    .word 0x0804b293  # sltiu x5, x9, 128
-    .word 0xfa029ee3  # bne x5, x0, -68
+    .word 0x0404b293  # sltiu x5, x9, 64
+    .word 0xf80298e3  # bne x5, x0, -112
     .word 0xfff48493  # addi x9, x9, -1
     # the result
     .word 0x00000513  # addi x10, x0, 0
@@ -136,21 +121,15 @@ mlkem_encode_12:
     .word 0x39c12283  # lw x5, 924(x2)
     .word 0x20010313  # addi x6, x2, 512
     .word 0x0032fe13  # andi x28, x5, 3
-    .word 0x020e0e63  # beq x28, x0, 60
+    .word 0x020e0263  # beq x28, x0, 36
     .word 0x18000393  # addi x7, x0, 384
     .word 0x005383b3  # add x7, x7, x5
     .word 0x00034e03  # lbu x28, 0(x6)
     .word 0x01c28023  # sb x28, 0(x5)
-    .word 0x00134e03  # lbu x28, 1(x6)
-    .word 0x01c280a3  # sb x28, 1(x5)
-    .word 0x00234e03  # lbu x28, 2(x6)
-    .word 0x01c28123  # sb x28, 2(x5)
-    .word 0x00334e03  # lbu x28, 3(x6)
-    .word 0x01c281a3  # sb x28, 3(x5)
-    .word 0x00428293  # addi x5, x5, 4
-    .word 0x00430313  # addi x6, x6, 4
-    .word 0xfc729ce3  # bne x5, x7, -40
-    .word 0x0580006f  # jal x0, 88
+    .word 0x00128293  # addi x5, x5, 1
+    .word 0x00130313  # addi x6, x6, 1
+    .word 0xfe7298e3  # bne x5, x7, -16
+    .word 0x0380006f  # jal x0, 56
     .word 0x18000393  # addi x7, x0, 384
     .word 0x005383b3  # add x7, x7, x5
     .word 0x00032e03  # lw x28, 0(x6)
@@ -161,17 +140,9 @@ mlkem_encode_12:
     .word 0x01c2a423  # sw x28, 8(x5)
     .word 0x00c32e03  # lw x28, 12(x6)
     .word 0x01c2a623  # sw x28, 12(x5)
-    .word 0x01032e03  # lw x28, 16(x6)
-    .word 0x01c2a823  # sw x28, 16(x5)
-    .word 0x01432e03  # lw x28, 20(x6)
-    .word 0x01c2aa23  # sw x28, 20(x5)
-    .word 0x01832e03  # lw x28, 24(x6)
-    .word 0x01c2ac23  # sw x28, 24(x5)
-    .word 0x01c32e03  # lw x28, 28(x6)
-    .word 0x01c2ae23  # sw x28, 28(x5)
-    .word 0x02028293  # addi x5, x5, 32
-    .word 0x02030313  # addi x6, x6, 32
-    .word 0xfa729ce3  # bne x5, x7, -72
+    .word 0x01028293  # addi x5, x5, 16
+    .word 0x01030313  # addi x6, x6, 16
+    .word 0xfc729ce3  # bne x5, x7, -40
     # above the frame
     .word 0x39010293  # addi x5, x2, 912
     # the caller's registers
@@ -190,24 +161,7 @@ mlkem_encode_12:
     .word 0x00012c23  # sw x0, 24(x2)
     .word 0x00012e23  # sw x0, 28(x2)
     .word 0x02010113  # addi x2, x2, 32
-    .word 0x00012023  # sw x0, 0(x2)
-    .word 0x00012223  # sw x0, 4(x2)
-    .word 0x00012423  # sw x0, 8(x2)
-    .word 0x00012623  # sw x0, 12(x2)
-    .word 0x00012823  # sw x0, 16(x2)
-    .word 0x00012a23  # sw x0, 20(x2)
-    .word 0x00012c23  # sw x0, 24(x2)
-    .word 0x00012e23  # sw x0, 28(x2)
-    .word 0x02012023  # sw x0, 32(x2)
-    .word 0x02012223  # sw x0, 36(x2)
-    .word 0x02012423  # sw x0, 40(x2)
-    .word 0x02012623  # sw x0, 44(x2)
-    .word 0x02012823  # sw x0, 48(x2)
-    .word 0x02012a23  # sw x0, 52(x2)
-    .word 0x02012c23  # sw x0, 56(x2)
-    .word 0x02012e23  # sw x0, 60(x2)
-    .word 0x04010113  # addi x2, x2, 64
-    .word 0xfa511ee3  # bne x2, x5, -68
+    .word 0xfc511ee3  # bne x2, x5, -36
     .cfi_def_cfa 2, 0
     # temporaries, wiped
     .word 0x00000293  # addi x5, x0, 0

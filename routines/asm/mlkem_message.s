@@ -1,4 +1,4 @@
-# mlkem_message: made by factc 1.0.0 function; 189 words, 576 bytes of stack, profile 1
+# mlkem_message: made by factc 1.0.0 function; 168 words, 576 bytes of stack, profile 1
     .option push
     .option norvc
     .option norelax
@@ -27,20 +27,14 @@ mlkem_message:
     .word 0x00050293  # addi x5, x10, 0
     .word 0x00010313  # addi x6, x2, 0
     .word 0x0032fe13  # andi x28, x5, 3
-    .word 0x020e0e63  # beq x28, x0, 60
+    .word 0x020e0263  # beq x28, x0, 36
     .word 0x02000393  # addi x7, x0, 32
     .word 0x005383b3  # add x7, x7, x5
     .word 0x0002ce03  # lbu x28, 0(x5)
     .word 0x01c30023  # sb x28, 0(x6)
-    .word 0x0012ce03  # lbu x28, 1(x5)
-    .word 0x01c300a3  # sb x28, 1(x6)
-    .word 0x0022ce03  # lbu x28, 2(x5)
-    .word 0x01c30123  # sb x28, 2(x6)
-    .word 0x0032ce03  # lbu x28, 3(x5)
-    .word 0x01c301a3  # sb x28, 3(x6)
-    .word 0x00428293  # addi x5, x5, 4
-    .word 0x00430313  # addi x6, x6, 4
-    .word 0xfc729ce3  # bne x5, x7, -40
+    .word 0x00128293  # addi x5, x5, 1
+    .word 0x00130313  # addi x6, x6, 1
+    .word 0xfe7298e3  # bne x5, x7, -16
     .word 0x0440006f  # jal x0, 68
     .word 0x0002ae03  # lw x28, 0(x5)
     .word 0x01c32023  # sw x28, 0(x6)
@@ -58,78 +52,86 @@ mlkem_message:
     .word 0x01c32c23  # sw x28, 24(x6)
     .word 0x01c2ae03  # lw x28, 28(x5)
     .word 0x01c32e23  # sw x28, 28(x6)
+    # parameter 1: an array
+    .word 0x00058293  # addi x5, x11, 0
+    .word 0x02010313  # addi x6, x2, 32
+    .word 0x0032fe13  # andi x28, x5, 3
+    .word 0x020e0263  # beq x28, x0, 36
+    .word 0x20000393  # addi x7, x0, 512
+    .word 0x005383b3  # add x7, x7, x5
+    .word 0x0002de03  # lhu x28, 0(x5)
+    .word 0x01c31023  # sh x28, 0(x6)
+    .word 0x00228293  # addi x5, x5, 2
+    .word 0x00230313  # addi x6, x6, 2
+    .word 0xfe7298e3  # bne x5, x7, -16
+    .word 0x0380006f  # jal x0, 56
+    .word 0x20000393  # addi x7, x0, 512
+    .word 0x005383b3  # add x7, x7, x5
+    .word 0x0002ae03  # lw x28, 0(x5)
+    .word 0x01c32023  # sw x28, 0(x6)
+    .word 0x0042ae03  # lw x28, 4(x5)
+    .word 0x01c32223  # sw x28, 4(x6)
+    .word 0x0082ae03  # lw x28, 8(x5)
+    .word 0x01c32423  # sw x28, 8(x6)
+    .word 0x00c2ae03  # lw x28, 12(x5)
+    .word 0x01c32623  # sw x28, 12(x6)
+    .word 0x01028293  # addi x5, x5, 16
+    .word 0x01030313  # addi x6, x6, 16
+    .word 0xfc729ce3  # bne x5, x7, -40
     # the body
     .word 0x00000413  # addi x8, x0, 0
     .word 0x00000493  # addi x9, x0, 0
+    .word 0x00000513  # addi x10, x0, 0
+    .word 0x00149593  # slli x11, x9, 1
+    .word 0x002585b3  # add x11, x11, x2
     .word 0x00000413  # addi x8, x0, 0
-    .word 0x002404b3  # add x9, x8, x2
-    .word 0x0004c483  # lbu x9, 0(x9)
-    .word 0x00341293  # slli x5, x8, 3
-    .word 0x0014f313  # andi x6, x9, 1
-    .word 0x40600333  # sub x6, x0, x6
-    .word 0x68137313  # andi x6, x6, 1665
-    .word 0x00129293  # slli x5, x5, 1
-    .word 0x002282b3  # add x5, x5, x2
-    .word 0x02629023  # sh x6, 32(x5)
-    .word 0x00341293  # slli x5, x8, 3
-    .word 0x0014d313  # srli x6, x9, 1
-    .word 0x00137313  # andi x6, x6, 1
-    .word 0x40600333  # sub x6, x0, x6
-    .word 0x68137313  # andi x6, x6, 1665
-    .word 0x00129293  # slli x5, x5, 1
-    .word 0x002282b3  # add x5, x5, x2
-    .word 0x02629123  # sh x6, 34(x5)
-    .word 0x00341293  # slli x5, x8, 3
-    .word 0x0024d313  # srli x6, x9, 2
-    .word 0x00137313  # andi x6, x6, 1
-    .word 0x40600333  # sub x6, x0, x6
-    .word 0x68137313  # andi x6, x6, 1665
-    .word 0x00129293  # slli x5, x5, 1
-    .word 0x002282b3  # add x5, x5, x2
-    .word 0x02629223  # sh x6, 36(x5)
-    .word 0x00341293  # slli x5, x8, 3
-    .word 0x0034d313  # srli x6, x9, 3
-    .word 0x00137313  # andi x6, x6, 1
-    .word 0x40600333  # sub x6, x0, x6
-    .word 0x68137313  # andi x6, x6, 1665
-    .word 0x00129293  # slli x5, x5, 1
-    .word 0x002282b3  # add x5, x5, x2
-    .word 0x02629323  # sh x6, 38(x5)
-    .word 0x00341293  # slli x5, x8, 3
-    .word 0x0044d313  # srli x6, x9, 4
-    .word 0x00137313  # andi x6, x6, 1
-    .word 0x40600333  # sub x6, x0, x6
-    .word 0x68137313  # andi x6, x6, 1665
-    .word 0x00129293  # slli x5, x5, 1
-    .word 0x002282b3  # add x5, x5, x2
-    .word 0x02629423  # sh x6, 40(x5)
-    .word 0x00341293  # slli x5, x8, 3
-    .word 0x0054d313  # srli x6, x9, 5
-    .word 0x00137313  # andi x6, x6, 1
-    .word 0x40600333  # sub x6, x0, x6
-    .word 0x68137313  # andi x6, x6, 1665
-    .word 0x00129293  # slli x5, x5, 1
-    .word 0x002282b3  # add x5, x5, x2
-    .word 0x02629523  # sh x6, 42(x5)
-    .word 0x00341293  # slli x5, x8, 3
-    .word 0x0064d313  # srli x6, x9, 6
-    .word 0x00137313  # andi x6, x6, 1
-    .word 0x40600333  # sub x6, x0, x6
-    .word 0x68137313  # andi x6, x6, 1665
-    .word 0x00129293  # slli x5, x5, 1
-    .word 0x002282b3  # add x5, x5, x2
-    .word 0x02629623  # sh x6, 44(x5)
-    .word 0x00341293  # slli x5, x8, 3
-    .word 0x0074d313  # srli x6, x9, 7
-    .word 0x00137313  # andi x6, x6, 1
-    .word 0x40600333  # sub x6, x0, x6
-    .word 0x68137313  # andi x6, x6, 1665
-    .word 0x00129293  # slli x5, x5, 1
-    .word 0x002282b3  # add x5, x5, x2
-    .word 0x02629723  # sh x6, 46(x5)
+    .word 0x00341493  # slli x9, x8, 3
+    .word 0x00149593  # slli x11, x9, 1
+    .word 0x002585b3  # add x11, x11, x2
+    .word 0x00240533  # add x10, x8, x2
+    .word 0x00054503  # lbu x10, 0(x10)
+    .word 0x00157293  # andi x5, x10, 1
+    .word 0x405002b3  # sub x5, x0, x5
+    .word 0x6812f293  # andi x5, x5, 1665
+    .word 0x02559023  # sh x5, 32(x11)
+    .word 0x00155293  # srli x5, x10, 1
+    .word 0x0012f293  # andi x5, x5, 1
+    .word 0x405002b3  # sub x5, x0, x5
+    .word 0x6812f293  # andi x5, x5, 1665
+    .word 0x02559123  # sh x5, 34(x11)
+    .word 0x00255293  # srli x5, x10, 2
+    .word 0x0012f293  # andi x5, x5, 1
+    .word 0x405002b3  # sub x5, x0, x5
+    .word 0x6812f293  # andi x5, x5, 1665
+    .word 0x02559223  # sh x5, 36(x11)
+    .word 0x00355293  # srli x5, x10, 3
+    .word 0x0012f293  # andi x5, x5, 1
+    .word 0x405002b3  # sub x5, x0, x5
+    .word 0x6812f293  # andi x5, x5, 1665
+    .word 0x02559323  # sh x5, 38(x11)
+    .word 0x00455293  # srli x5, x10, 4
+    .word 0x0012f293  # andi x5, x5, 1
+    .word 0x405002b3  # sub x5, x0, x5
+    .word 0x6812f293  # andi x5, x5, 1665
+    .word 0x02559423  # sh x5, 40(x11)
+    .word 0x00555293  # srli x5, x10, 5
+    .word 0x0012f293  # andi x5, x5, 1
+    .word 0x405002b3  # sub x5, x0, x5
+    .word 0x6812f293  # andi x5, x5, 1665
+    .word 0x02559523  # sh x5, 42(x11)
+    .word 0x00655293  # srli x5, x10, 6
+    .word 0x0012f293  # andi x5, x5, 1
+    .word 0x405002b3  # sub x5, x0, x5
+    .word 0x6812f293  # andi x5, x5, 1665
+    .word 0x02559623  # sh x5, 44(x11)
+    .word 0x00755293  # srli x5, x10, 7
+    .word 0x0012f293  # andi x5, x5, 1
+    .word 0x405002b3  # sub x5, x0, x5
+    .word 0x6812f293  # andi x5, x5, 1665
+    .word 0x02559723  # sh x5, 46(x11)
     .word 0x00140413  # addi x8, x8, 1
     .word 0x02043293  # sltiu x5, x8, 32
-    .word 0xee029ae3  # bne x5, x0, -268
+    .word 0xf40294e3  # bne x5, x0, -184
     .word 0xfff40413  # addi x8, x8, -1
     # the result
     .word 0x00000513  # addi x10, x0, 0
@@ -137,21 +139,15 @@ mlkem_message:
     .word 0x23c12283  # lw x5, 572(x2)
     .word 0x02010313  # addi x6, x2, 32
     .word 0x0032fe13  # andi x28, x5, 3
-    .word 0x020e0e63  # beq x28, x0, 60
+    .word 0x020e0263  # beq x28, x0, 36
     .word 0x20000393  # addi x7, x0, 512
     .word 0x005383b3  # add x7, x7, x5
     .word 0x00035e03  # lhu x28, 0(x6)
     .word 0x01c29023  # sh x28, 0(x5)
-    .word 0x00235e03  # lhu x28, 2(x6)
-    .word 0x01c29123  # sh x28, 2(x5)
-    .word 0x00435e03  # lhu x28, 4(x6)
-    .word 0x01c29223  # sh x28, 4(x5)
-    .word 0x00635e03  # lhu x28, 6(x6)
-    .word 0x01c29323  # sh x28, 6(x5)
-    .word 0x00828293  # addi x5, x5, 8
-    .word 0x00830313  # addi x6, x6, 8
-    .word 0xfc729ce3  # bne x5, x7, -40
-    .word 0x0580006f  # jal x0, 88
+    .word 0x00228293  # addi x5, x5, 2
+    .word 0x00230313  # addi x6, x6, 2
+    .word 0xfe7298e3  # bne x5, x7, -16
+    .word 0x0380006f  # jal x0, 56
     .word 0x20000393  # addi x7, x0, 512
     .word 0x005383b3  # add x7, x7, x5
     .word 0x00032e03  # lw x28, 0(x6)
@@ -162,17 +158,9 @@ mlkem_message:
     .word 0x01c2a423  # sw x28, 8(x5)
     .word 0x00c32e03  # lw x28, 12(x6)
     .word 0x01c2a623  # sw x28, 12(x5)
-    .word 0x01032e03  # lw x28, 16(x6)
-    .word 0x01c2a823  # sw x28, 16(x5)
-    .word 0x01432e03  # lw x28, 20(x6)
-    .word 0x01c2aa23  # sw x28, 20(x5)
-    .word 0x01832e03  # lw x28, 24(x6)
-    .word 0x01c2ac23  # sw x28, 24(x5)
-    .word 0x01c32e03  # lw x28, 28(x6)
-    .word 0x01c2ae23  # sw x28, 28(x5)
-    .word 0x02028293  # addi x5, x5, 32
-    .word 0x02030313  # addi x6, x6, 32
-    .word 0xfa729ce3  # bne x5, x7, -72
+    .word 0x01028293  # addi x5, x5, 16
+    .word 0x01030313  # addi x6, x6, 16
+    .word 0xfc729ce3  # bne x5, x7, -40
     # above the frame
     .word 0x23010293  # addi x5, x2, 560
     # the caller's registers
@@ -192,16 +180,8 @@ mlkem_message:
     .word 0x00012a23  # sw x0, 20(x2)
     .word 0x00012c23  # sw x0, 24(x2)
     .word 0x00012e23  # sw x0, 28(x2)
-    .word 0x02012023  # sw x0, 32(x2)
-    .word 0x02012223  # sw x0, 36(x2)
-    .word 0x02012423  # sw x0, 40(x2)
-    .word 0x02012623  # sw x0, 44(x2)
-    .word 0x02012823  # sw x0, 48(x2)
-    .word 0x02012a23  # sw x0, 52(x2)
-    .word 0x02012c23  # sw x0, 56(x2)
-    .word 0x02012e23  # sw x0, 60(x2)
-    .word 0x04010113  # addi x2, x2, 64
-    .word 0xfa511ee3  # bne x2, x5, -68
+    .word 0x02010113  # addi x2, x2, 32
+    .word 0xfc511ee3  # bne x2, x5, -36
     .cfi_def_cfa 2, 0
     # temporaries, wiped
     .word 0x00000293  # addi x5, x0, 0

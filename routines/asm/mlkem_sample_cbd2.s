@@ -1,4 +1,4 @@
-# mlkem_sample_cbd2: made by factc 1.0.0 function; 209 words, 672 bytes of stack, profile 1
+# mlkem_sample_cbd2: made by factc 1.0.0 function; 220 words, 688 bytes of stack, profile 1
     .option push
     .option norvc
     .option norelax
@@ -10,38 +10,36 @@
 mlkem_sample_cbd2:
     .cfi_startproc
     # room above the frame
-    .word 0xff010113  # addi x2, x2, -16
-    .cfi_def_cfa_offset 16
+    .word 0xfe010113  # addi x2, x2, -32
+    .cfi_def_cfa_offset 32
     # the caller's registers
     .word 0x00812023  # sw x8, 0(x2)
-    .cfi_offset 8, -16
+    .cfi_offset 8, -32
     .word 0x00912223  # sw x9, 4(x2)
-    .cfi_offset 9, -12
+    .cfi_offset 9, -28
+    .word 0x01212423  # sw x18, 8(x2)
+    .cfi_offset 18, -24
+    .word 0x01312623  # sw x19, 12(x2)
+    .cfi_offset 19, -20
     # arguments that are needed behind the body
-    .word 0x00a12423  # sw x10, 8(x2)
-    .word 0x00b12623  # sw x11, 12(x2)
+    .word 0x00a12c23  # sw x10, 24(x2)
+    .word 0x00b12e23  # sw x11, 28(x2)
     # the frame's base
     .word 0xd7010113  # addi x2, x2, -656
-    .cfi_def_cfa 2, 672
+    .cfi_def_cfa 2, 688
     # parameter 0: an array
     .word 0x00050293  # addi x5, x10, 0
     .word 0x00010313  # addi x6, x2, 0
     .word 0x0032fe13  # andi x28, x5, 3
-    .word 0x020e0e63  # beq x28, x0, 60
+    .word 0x020e0263  # beq x28, x0, 36
     .word 0x08000393  # addi x7, x0, 128
     .word 0x005383b3  # add x7, x7, x5
     .word 0x0002ce03  # lbu x28, 0(x5)
     .word 0x01c30023  # sb x28, 0(x6)
-    .word 0x0012ce03  # lbu x28, 1(x5)
-    .word 0x01c300a3  # sb x28, 1(x6)
-    .word 0x0022ce03  # lbu x28, 2(x5)
-    .word 0x01c30123  # sb x28, 2(x6)
-    .word 0x0032ce03  # lbu x28, 3(x5)
-    .word 0x01c301a3  # sb x28, 3(x6)
-    .word 0x00428293  # addi x5, x5, 4
-    .word 0x00430313  # addi x6, x6, 4
-    .word 0xfc729ce3  # bne x5, x7, -40
-    .word 0x0580006f  # jal x0, 88
+    .word 0x00128293  # addi x5, x5, 1
+    .word 0x00130313  # addi x6, x6, 1
+    .word 0xfe7298e3  # bne x5, x7, -16
+    .word 0x0380006f  # jal x0, 56
     .word 0x08000393  # addi x7, x0, 128
     .word 0x005383b3  # add x7, x7, x5
     .word 0x0002ae03  # lw x28, 0(x5)
@@ -52,36 +50,22 @@ mlkem_sample_cbd2:
     .word 0x01c32423  # sw x28, 8(x6)
     .word 0x00c2ae03  # lw x28, 12(x5)
     .word 0x01c32623  # sw x28, 12(x6)
-    .word 0x0102ae03  # lw x28, 16(x5)
-    .word 0x01c32823  # sw x28, 16(x6)
-    .word 0x0142ae03  # lw x28, 20(x5)
-    .word 0x01c32a23  # sw x28, 20(x6)
-    .word 0x0182ae03  # lw x28, 24(x5)
-    .word 0x01c32c23  # sw x28, 24(x6)
-    .word 0x01c2ae03  # lw x28, 28(x5)
-    .word 0x01c32e23  # sw x28, 28(x6)
-    .word 0x02028293  # addi x5, x5, 32
-    .word 0x02030313  # addi x6, x6, 32
-    .word 0xfa729ce3  # bne x5, x7, -72
+    .word 0x01028293  # addi x5, x5, 16
+    .word 0x01030313  # addi x6, x6, 16
+    .word 0xfc729ce3  # bne x5, x7, -40
     # parameter 1: an array
     .word 0x00058293  # addi x5, x11, 0
     .word 0x08010313  # addi x6, x2, 128
     .word 0x0032fe13  # andi x28, x5, 3
-    .word 0x020e0e63  # beq x28, x0, 60
+    .word 0x020e0263  # beq x28, x0, 36
     .word 0x20000393  # addi x7, x0, 512
     .word 0x005383b3  # add x7, x7, x5
     .word 0x0002de03  # lhu x28, 0(x5)
     .word 0x01c31023  # sh x28, 0(x6)
-    .word 0x0022de03  # lhu x28, 2(x5)
-    .word 0x01c31123  # sh x28, 2(x6)
-    .word 0x0042de03  # lhu x28, 4(x5)
-    .word 0x01c31223  # sh x28, 4(x6)
-    .word 0x0062de03  # lhu x28, 6(x5)
-    .word 0x01c31323  # sh x28, 6(x6)
-    .word 0x00828293  # addi x5, x5, 8
-    .word 0x00830313  # addi x6, x6, 8
-    .word 0xfc729ce3  # bne x5, x7, -40
-    .word 0x0580006f  # jal x0, 88
+    .word 0x00228293  # addi x5, x5, 2
+    .word 0x00230313  # addi x6, x6, 2
+    .word 0xfe7298e3  # bne x5, x7, -16
+    .word 0x0380006f  # jal x0, 56
     .word 0x20000393  # addi x7, x0, 512
     .word 0x005383b3  # add x7, x7, x5
     .word 0x0002ae03  # lw x28, 0(x5)
@@ -92,78 +76,125 @@ mlkem_sample_cbd2:
     .word 0x01c32423  # sw x28, 8(x6)
     .word 0x00c2ae03  # lw x28, 12(x5)
     .word 0x01c32623  # sw x28, 12(x6)
-    .word 0x0102ae03  # lw x28, 16(x5)
-    .word 0x01c32823  # sw x28, 16(x6)
-    .word 0x0142ae03  # lw x28, 20(x5)
-    .word 0x01c32a23  # sw x28, 20(x6)
-    .word 0x0182ae03  # lw x28, 24(x5)
-    .word 0x01c32c23  # sw x28, 24(x6)
-    .word 0x01c2ae03  # lw x28, 28(x5)
-    .word 0x01c32e23  # sw x28, 28(x6)
-    .word 0x02028293  # addi x5, x5, 32
-    .word 0x02030313  # addi x6, x6, 32
-    .word 0xfa729ce3  # bne x5, x7, -72
+    .word 0x01028293  # addi x5, x5, 16
+    .word 0x01030313  # addi x6, x6, 16
+    .word 0xfc729ce3  # bne x5, x7, -40
     # the body
     .word 0x00000493  # addi x9, x0, 0
     .word 0x00000513  # addi x10, x0, 0
     .word 0x00000593  # addi x11, x0, 0
     .word 0x00000613  # addi x12, x0, 0
     .word 0x00000693  # addi x13, x0, 0
-    .word 0x00151713  # slli x14, x10, 1
-    .word 0x00270733  # add x14, x14, x2
+    .word 0x00000713  # addi x14, x0, 0
+    .word 0x00250933  # add x18, x10, x2
+    .word 0x00159993  # slli x19, x11, 1
+    .word 0x002989b3  # add x19, x19, x2
+    .word 0x555557b7  # lui x15, 0x55555
+    .word 0x55578793  # addi x15, x15, 1365
+    .word 0x33333837  # lui x16, 0x33333
+    .word 0x33380813  # addi x16, x16, 819
+    .word 0x888898b7  # lui x17, 0x88889
+    .word 0x88888893  # addi x17, x17, -1912
     .word 0x00001437  # lui x8, 0x00001
     .word 0xd0140413  # addi x8, x8, -767
     .word 0x00000493  # addi x9, x0, 0
-    .word 0x00149513  # slli x10, x9, 1
-    .word 0x00151713  # slli x14, x10, 1
-    .word 0x00270733  # add x14, x14, x2
-    .word 0x002485b3  # add x11, x9, x2
-    .word 0x0005c583  # lbu x11, 0(x11)
-    .word 0x0555f293  # andi x5, x11, 85
-    .word 0x0015d313  # srli x6, x11, 1
-    .word 0x05537313  # andi x6, x6, 85
-    .word 0x006285b3  # add x11, x5, x6
-    .word 0x0035f293  # andi x5, x11, 3
-    .word 0x0025d313  # srli x6, x11, 2
-    .word 0x00337313  # andi x6, x6, 3
+    .word 0x00249513  # slli x10, x9, 2
+    .word 0x00250933  # add x18, x10, x2
+    .word 0x00349593  # slli x11, x9, 3
+    .word 0x00159993  # slli x19, x11, 1
+    .word 0x002989b3  # add x19, x19, x2
+    .word 0x00094283  # lbu x5, 0(x18)
+    .word 0x00194303  # lbu x6, 1(x18)
+    .word 0x00831313  # slli x6, x6, 8
+    .word 0x0062e6b3  # or x13, x5, x6
+    .word 0x00294283  # lbu x5, 2(x18)
+    .word 0x00394303  # lbu x6, 3(x18)
+    .word 0x00831313  # slli x6, x6, 8
+    .word 0x0062e733  # or x14, x5, x6
+    .word 0x01071293  # slli x5, x14, 16
+    .word 0x00d2e6b3  # or x13, x5, x13
+    .word 0x00f6f2b3  # and x5, x13, x15
+    .word 0x0016d313  # srli x6, x13, 1
+    .word 0x00f37333  # and x6, x6, x15
+    .word 0x006286b3  # add x13, x5, x6
+    .word 0x0106f2b3  # and x5, x13, x16
+    .word 0x011282b3  # add x5, x5, x17
+    .word 0x0026d313  # srli x6, x13, 2
+    .word 0x01037333  # and x6, x6, x16
     .word 0x40628633  # sub x12, x5, x6
+    .word 0x00f67293  # andi x5, x12, 15
+    .word 0xff828693  # addi x13, x5, -8
+    .word 0x0106d293  # srli x5, x13, 16
+    .word 0x0082f733  # and x14, x5, x8
+    .word 0x00e682b3  # add x5, x13, x14
+    .word 0x08599023  # sh x5, 128(x19)
+    .word 0x00465293  # srli x5, x12, 4
+    .word 0x00f2f293  # andi x5, x5, 15
+    .word 0xff828693  # addi x13, x5, -8
+    .word 0x0106d293  # srli x5, x13, 16
+    .word 0x0082f733  # and x14, x5, x8
+    .word 0x00e682b3  # add x5, x13, x14
+    .word 0x08599123  # sh x5, 130(x19)
+    .word 0x00865293  # srli x5, x12, 8
+    .word 0x00f2f293  # andi x5, x5, 15
+    .word 0xff828693  # addi x13, x5, -8
+    .word 0x0106d293  # srli x5, x13, 16
+    .word 0x0082f733  # and x14, x5, x8
+    .word 0x00e682b3  # add x5, x13, x14
+    .word 0x08599223  # sh x5, 132(x19)
+    .word 0x00c65293  # srli x5, x12, 12
+    .word 0x00f2f293  # andi x5, x5, 15
+    .word 0xff828693  # addi x13, x5, -8
+    .word 0x0106d293  # srli x5, x13, 16
+    .word 0x0082f733  # and x14, x5, x8
+    .word 0x00e682b3  # add x5, x13, x14
+    .word 0x08599323  # sh x5, 134(x19)
     .word 0x01065293  # srli x5, x12, 16
-    .word 0x0082f6b3  # and x13, x5, x8
-    .word 0x00d602b3  # add x5, x12, x13
-    .word 0x08571023  # sh x5, 128(x14)
-    .word 0x0045d293  # srli x5, x11, 4
-    .word 0x0032f293  # andi x5, x5, 3
-    .word 0x0065d313  # srli x6, x11, 6
-    .word 0x406285b3  # sub x11, x5, x6
-    .word 0x0105d293  # srli x5, x11, 16
-    .word 0x0082f633  # and x12, x5, x8
-    .word 0x00c582b3  # add x5, x11, x12
-    .word 0x08571123  # sh x5, 130(x14)
+    .word 0x00f2f293  # andi x5, x5, 15
+    .word 0xff828693  # addi x13, x5, -8
+    .word 0x0106d293  # srli x5, x13, 16
+    .word 0x0082f733  # and x14, x5, x8
+    .word 0x00e682b3  # add x5, x13, x14
+    .word 0x08599423  # sh x5, 136(x19)
+    .word 0x01465293  # srli x5, x12, 20
+    .word 0x00f2f293  # andi x5, x5, 15
+    .word 0xff828693  # addi x13, x5, -8
+    .word 0x0106d293  # srli x5, x13, 16
+    .word 0x0082f733  # and x14, x5, x8
+    .word 0x00e682b3  # add x5, x13, x14
+    .word 0x08599523  # sh x5, 138(x19)
+    .word 0x01865293  # srli x5, x12, 24
+    .word 0x00f2f293  # andi x5, x5, 15
+    .word 0xff828693  # addi x13, x5, -8
+    .word 0x0106d293  # srli x5, x13, 16
+    .word 0x0082f733  # and x14, x5, x8
+    .word 0x00e682b3  # add x5, x13, x14
+    .word 0x08599623  # sh x5, 140(x19)
+    .word 0x01c65293  # srli x5, x12, 28
+    .word 0xff828693  # addi x13, x5, -8
+    .word 0x0106d293  # srli x5, x13, 16
+    .word 0x0082f733  # and x14, x5, x8
+    .word 0x00e682b3  # add x5, x13, x14
+    .word 0x08599723  # sh x5, 142(x19)
     .word 0x00148493  # addi x9, x9, 1
-    .word 0x0804b293  # sltiu x5, x9, 128
-    .word 0xf8029ae3  # bne x5, x0, -108
+    .word 0x0204b293  # sltiu x5, x9, 32
+    .word 0xec0290e3  # bne x5, x0, -320
     .word 0xfff48493  # addi x9, x9, -1
     # the result
     .word 0x00000513  # addi x10, x0, 0
     # parameter 1: the array, back
-    .word 0x29c12283  # lw x5, 668(x2)
+    .word 0x2ac12283  # lw x5, 684(x2)
     .word 0x08010313  # addi x6, x2, 128
     .word 0x0032fe13  # andi x28, x5, 3
-    .word 0x020e0e63  # beq x28, x0, 60
+    .word 0x020e0263  # beq x28, x0, 36
     .word 0x20000393  # addi x7, x0, 512
     .word 0x005383b3  # add x7, x7, x5
     .word 0x00035e03  # lhu x28, 0(x6)
     .word 0x01c29023  # sh x28, 0(x5)
-    .word 0x00235e03  # lhu x28, 2(x6)
-    .word 0x01c29123  # sh x28, 2(x5)
-    .word 0x00435e03  # lhu x28, 4(x6)
-    .word 0x01c29223  # sh x28, 4(x5)
-    .word 0x00635e03  # lhu x28, 6(x6)
-    .word 0x01c29323  # sh x28, 6(x5)
-    .word 0x00828293  # addi x5, x5, 8
-    .word 0x00830313  # addi x6, x6, 8
-    .word 0xfc729ce3  # bne x5, x7, -40
-    .word 0x0580006f  # jal x0, 88
+    .word 0x00228293  # addi x5, x5, 2
+    .word 0x00230313  # addi x6, x6, 2
+    .word 0xfe7298e3  # bne x5, x7, -16
+    .word 0x0380006f  # jal x0, 56
     .word 0x20000393  # addi x7, x0, 512
     .word 0x005383b3  # add x7, x7, x5
     .word 0x00032e03  # lw x28, 0(x6)
@@ -174,17 +205,9 @@ mlkem_sample_cbd2:
     .word 0x01c2a423  # sw x28, 8(x5)
     .word 0x00c32e03  # lw x28, 12(x6)
     .word 0x01c2a623  # sw x28, 12(x5)
-    .word 0x01032e03  # lw x28, 16(x6)
-    .word 0x01c2a823  # sw x28, 16(x5)
-    .word 0x01432e03  # lw x28, 20(x6)
-    .word 0x01c2aa23  # sw x28, 20(x5)
-    .word 0x01832e03  # lw x28, 24(x6)
-    .word 0x01c2ac23  # sw x28, 24(x5)
-    .word 0x01c32e03  # lw x28, 28(x6)
-    .word 0x01c2ae23  # sw x28, 28(x5)
-    .word 0x02028293  # addi x5, x5, 32
-    .word 0x02030313  # addi x6, x6, 32
-    .word 0xfa729ce3  # bne x5, x7, -72
+    .word 0x01028293  # addi x5, x5, 16
+    .word 0x01030313  # addi x6, x6, 16
+    .word 0xfc729ce3  # bne x5, x7, -40
     # above the frame
     .word 0x29010293  # addi x5, x2, 656
     # the caller's registers
@@ -192,10 +215,19 @@ mlkem_sample_cbd2:
     .cfi_restore 8
     .word 0x0042a483  # lw x9, 4(x5)
     .cfi_restore 9
+    .word 0x0082a903  # lw x18, 8(x5)
+    .cfi_restore 18
+    .word 0x00c2a983  # lw x19, 12(x5)
+    .cfi_restore 19
     # the caller's x2
-    .word 0x01028293  # addi x5, x5, 16
+    .word 0x02028293  # addi x5, x5, 32
     .cfi_def_cfa 5, 0
     # all the room, wiped upward
+    .word 0x00012023  # sw x0, 0(x2)
+    .word 0x00012223  # sw x0, 4(x2)
+    .word 0x00012423  # sw x0, 8(x2)
+    .word 0x00012623  # sw x0, 12(x2)
+    .word 0x01010113  # addi x2, x2, 16
     .word 0x00012023  # sw x0, 0(x2)
     .word 0x00012223  # sw x0, 4(x2)
     .word 0x00012423  # sw x0, 8(x2)
@@ -205,24 +237,7 @@ mlkem_sample_cbd2:
     .word 0x00012c23  # sw x0, 24(x2)
     .word 0x00012e23  # sw x0, 28(x2)
     .word 0x02010113  # addi x2, x2, 32
-    .word 0x00012023  # sw x0, 0(x2)
-    .word 0x00012223  # sw x0, 4(x2)
-    .word 0x00012423  # sw x0, 8(x2)
-    .word 0x00012623  # sw x0, 12(x2)
-    .word 0x00012823  # sw x0, 16(x2)
-    .word 0x00012a23  # sw x0, 20(x2)
-    .word 0x00012c23  # sw x0, 24(x2)
-    .word 0x00012e23  # sw x0, 28(x2)
-    .word 0x02012023  # sw x0, 32(x2)
-    .word 0x02012223  # sw x0, 36(x2)
-    .word 0x02012423  # sw x0, 40(x2)
-    .word 0x02012623  # sw x0, 44(x2)
-    .word 0x02012823  # sw x0, 48(x2)
-    .word 0x02012a23  # sw x0, 52(x2)
-    .word 0x02012c23  # sw x0, 56(x2)
-    .word 0x02012e23  # sw x0, 60(x2)
-    .word 0x04010113  # addi x2, x2, 64
-    .word 0xfa511ee3  # bne x2, x5, -68
+    .word 0xfc511ee3  # bne x2, x5, -36
     .cfi_def_cfa 2, 0
     # temporaries, wiped
     .word 0x00000293  # addi x5, x0, 0

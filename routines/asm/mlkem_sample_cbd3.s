@@ -1,4 +1,4 @@
-# mlkem_sample_cbd3: made by factc 1.0.0 function; 250 words, 736 bytes of stack, profile 1
+# mlkem_sample_cbd3: made by factc 1.0.0 function; 194 words, 752 bytes of stack, profile 1
     .option push
     .option norvc
     .option norelax
@@ -10,38 +10,36 @@
 mlkem_sample_cbd3:
     .cfi_startproc
     # room above the frame
-    .word 0xff010113  # addi x2, x2, -16
-    .cfi_def_cfa_offset 16
+    .word 0xfe010113  # addi x2, x2, -32
+    .cfi_def_cfa_offset 32
     # the caller's registers
     .word 0x00812023  # sw x8, 0(x2)
-    .cfi_offset 8, -16
+    .cfi_offset 8, -32
     .word 0x00912223  # sw x9, 4(x2)
-    .cfi_offset 9, -12
+    .cfi_offset 9, -28
+    .word 0x01212423  # sw x18, 8(x2)
+    .cfi_offset 18, -24
+    .word 0x01312623  # sw x19, 12(x2)
+    .cfi_offset 19, -20
     # arguments that are needed behind the body
-    .word 0x00a12423  # sw x10, 8(x2)
-    .word 0x00b12623  # sw x11, 12(x2)
+    .word 0x00a12c23  # sw x10, 24(x2)
+    .word 0x00b12e23  # sw x11, 28(x2)
     # the frame's base
     .word 0xd3010113  # addi x2, x2, -720
-    .cfi_def_cfa 2, 736
+    .cfi_def_cfa 2, 752
     # parameter 0: an array
     .word 0x00050293  # addi x5, x10, 0
     .word 0x00010313  # addi x6, x2, 0
     .word 0x0032fe13  # andi x28, x5, 3
-    .word 0x020e0e63  # beq x28, x0, 60
+    .word 0x020e0263  # beq x28, x0, 36
     .word 0x0c000393  # addi x7, x0, 192
     .word 0x005383b3  # add x7, x7, x5
     .word 0x0002ce03  # lbu x28, 0(x5)
     .word 0x01c30023  # sb x28, 0(x6)
-    .word 0x0012ce03  # lbu x28, 1(x5)
-    .word 0x01c300a3  # sb x28, 1(x6)
-    .word 0x0022ce03  # lbu x28, 2(x5)
-    .word 0x01c30123  # sb x28, 2(x6)
-    .word 0x0032ce03  # lbu x28, 3(x5)
-    .word 0x01c301a3  # sb x28, 3(x6)
-    .word 0x00428293  # addi x5, x5, 4
-    .word 0x00430313  # addi x6, x6, 4
-    .word 0xfc729ce3  # bne x5, x7, -40
-    .word 0x0580006f  # jal x0, 88
+    .word 0x00128293  # addi x5, x5, 1
+    .word 0x00130313  # addi x6, x6, 1
+    .word 0xfe7298e3  # bne x5, x7, -16
+    .word 0x0380006f  # jal x0, 56
     .word 0x0c000393  # addi x7, x0, 192
     .word 0x005383b3  # add x7, x7, x5
     .word 0x0002ae03  # lw x28, 0(x5)
@@ -52,36 +50,22 @@ mlkem_sample_cbd3:
     .word 0x01c32423  # sw x28, 8(x6)
     .word 0x00c2ae03  # lw x28, 12(x5)
     .word 0x01c32623  # sw x28, 12(x6)
-    .word 0x0102ae03  # lw x28, 16(x5)
-    .word 0x01c32823  # sw x28, 16(x6)
-    .word 0x0142ae03  # lw x28, 20(x5)
-    .word 0x01c32a23  # sw x28, 20(x6)
-    .word 0x0182ae03  # lw x28, 24(x5)
-    .word 0x01c32c23  # sw x28, 24(x6)
-    .word 0x01c2ae03  # lw x28, 28(x5)
-    .word 0x01c32e23  # sw x28, 28(x6)
-    .word 0x02028293  # addi x5, x5, 32
-    .word 0x02030313  # addi x6, x6, 32
-    .word 0xfa729ce3  # bne x5, x7, -72
+    .word 0x01028293  # addi x5, x5, 16
+    .word 0x01030313  # addi x6, x6, 16
+    .word 0xfc729ce3  # bne x5, x7, -40
     # parameter 1: an array
     .word 0x00058293  # addi x5, x11, 0
     .word 0x0c010313  # addi x6, x2, 192
     .word 0x0032fe13  # andi x28, x5, 3
-    .word 0x020e0e63  # beq x28, x0, 60
+    .word 0x020e0263  # beq x28, x0, 36
     .word 0x20000393  # addi x7, x0, 512
     .word 0x005383b3  # add x7, x7, x5
     .word 0x0002de03  # lhu x28, 0(x5)
     .word 0x01c31023  # sh x28, 0(x6)
-    .word 0x0022de03  # lhu x28, 2(x5)
-    .word 0x01c31123  # sh x28, 2(x6)
-    .word 0x0042de03  # lhu x28, 4(x5)
-    .word 0x01c31223  # sh x28, 4(x6)
-    .word 0x0062de03  # lhu x28, 6(x5)
-    .word 0x01c31323  # sh x28, 6(x6)
-    .word 0x00828293  # addi x5, x5, 8
-    .word 0x00830313  # addi x6, x6, 8
-    .word 0xfc729ce3  # bne x5, x7, -40
-    .word 0x0580006f  # jal x0, 88
+    .word 0x00228293  # addi x5, x5, 2
+    .word 0x00230313  # addi x6, x6, 2
+    .word 0xfe7298e3  # bne x5, x7, -16
+    .word 0x0380006f  # jal x0, 56
     .word 0x20000393  # addi x7, x0, 512
     .word 0x005383b3  # add x7, x7, x5
     .word 0x0002ae03  # lw x28, 0(x5)
@@ -92,17 +76,9 @@ mlkem_sample_cbd3:
     .word 0x01c32423  # sw x28, 8(x6)
     .word 0x00c2ae03  # lw x28, 12(x5)
     .word 0x01c32623  # sw x28, 12(x6)
-    .word 0x0102ae03  # lw x28, 16(x5)
-    .word 0x01c32823  # sw x28, 16(x6)
-    .word 0x0142ae03  # lw x28, 20(x5)
-    .word 0x01c32a23  # sw x28, 20(x6)
-    .word 0x0182ae03  # lw x28, 24(x5)
-    .word 0x01c32c23  # sw x28, 24(x6)
-    .word 0x01c2ae03  # lw x28, 28(x5)
-    .word 0x01c32e23  # sw x28, 28(x6)
-    .word 0x02028293  # addi x5, x5, 32
-    .word 0x02030313  # addi x6, x6, 32
-    .word 0xfa729ce3  # bne x5, x7, -72
+    .word 0x01028293  # addi x5, x5, 16
+    .word 0x01030313  # addi x6, x6, 16
+    .word 0xfc729ce3  # bne x5, x7, -40
     # the body
     .word 0x00000513  # addi x10, x0, 0
     .word 0x00000593  # addi x11, x0, 0
@@ -110,6 +86,13 @@ mlkem_sample_cbd3:
     .word 0x00000693  # addi x13, x0, 0
     .word 0x00000713  # addi x14, x0, 0
     .word 0x00000793  # addi x15, x0, 0
+    .word 0x00258933  # add x18, x11, x2
+    .word 0x00161993  # slli x19, x12, 1
+    .word 0x002989b3  # add x19, x19, x2
+    .word 0x001c7837  # lui x16, 0x001c7
+    .word 0x1c780813  # addi x16, x16, 455
+    .word 0x002088b7  # lui x17, 0x00208
+    .word 0x20888893  # addi x17, x17, 520
     .word 0x00001437  # lui x8, 0x00001
     .word 0xd0140413  # addi x8, x8, -767
     .word 0x002494b7  # lui x9, 0x00249
@@ -117,94 +100,75 @@ mlkem_sample_cbd3:
     .word 0x00000513  # addi x10, x0, 0
     .word 0x00151293  # slli x5, x10, 1
     .word 0x00a285b3  # add x11, x5, x10
+    .word 0x00258933  # add x18, x11, x2
     .word 0x00251613  # slli x12, x10, 2
-    .word 0x002582b3  # add x5, x11, x2
-    .word 0x0002c283  # lbu x5, 0(x5)
-    .word 0x00258333  # add x6, x11, x2
-    .word 0x00134303  # lbu x6, 1(x6)
+    .word 0x00161993  # slli x19, x12, 1
+    .word 0x002989b3  # add x19, x19, x2
+    .word 0x00094283  # lbu x5, 0(x18)
+    .word 0x00194303  # lbu x6, 1(x18)
     .word 0x00831313  # slli x6, x6, 8
     .word 0x0062e2b3  # or x5, x5, x6
-    .word 0x00258333  # add x6, x11, x2
-    .word 0x00234303  # lbu x6, 2(x6)
+    .word 0x00294303  # lbu x6, 2(x18)
     .word 0x01031313  # slli x6, x6, 16
-    .word 0x0062e6b3  # or x13, x5, x6
-    .word 0x0096f2b3  # and x5, x13, x9
-    .word 0x0016d313  # srli x6, x13, 1
+    .word 0x0062e733  # or x14, x5, x6
+    .word 0x009772b3  # and x5, x14, x9
+    .word 0x00175313  # srli x6, x14, 1
     .word 0x00937333  # and x6, x6, x9
     .word 0x006282b3  # add x5, x5, x6
-    .word 0x0026d313  # srli x6, x13, 2
+    .word 0x00275313  # srli x6, x14, 2
     .word 0x00937333  # and x6, x6, x9
-    .word 0x006286b3  # add x13, x5, x6
-    .word 0x0076f793  # andi x15, x13, 7
-    .word 0x0036d293  # srli x5, x13, 3
-    .word 0x0072f713  # andi x14, x5, 7
-    .word 0x40e787b3  # sub x15, x15, x14
-    .word 0x0107d293  # srli x5, x15, 16
-    .word 0x0082f733  # and x14, x5, x8
-    .word 0x00e78333  # add x6, x15, x14
-    .word 0x00161293  # slli x5, x12, 1
-    .word 0x002282b3  # add x5, x5, x2
-    .word 0x0c629023  # sh x6, 192(x5)
-    .word 0x00160593  # addi x11, x12, 1
-    .word 0x0066d293  # srli x5, x13, 6
-    .word 0x0072f793  # andi x15, x5, 7
-    .word 0x0096d293  # srli x5, x13, 9
-    .word 0x0072f713  # andi x14, x5, 7
-    .word 0x40e787b3  # sub x15, x15, x14
-    .word 0x0107d293  # srli x5, x15, 16
-    .word 0x0082f733  # and x14, x5, x8
-    .word 0x00e78333  # add x6, x15, x14
-    .word 0x00159293  # slli x5, x11, 1
-    .word 0x002282b3  # add x5, x5, x2
-    .word 0x0c629023  # sh x6, 192(x5)
-    .word 0x00260593  # addi x11, x12, 2
-    .word 0x00c6d293  # srli x5, x13, 12
-    .word 0x0072f793  # andi x15, x5, 7
-    .word 0x00f6d293  # srli x5, x13, 15
-    .word 0x0072f713  # andi x14, x5, 7
-    .word 0x40e787b3  # sub x15, x15, x14
-    .word 0x0107d293  # srli x5, x15, 16
-    .word 0x0082f733  # and x14, x5, x8
-    .word 0x00e78333  # add x6, x15, x14
-    .word 0x00159293  # slli x5, x11, 1
-    .word 0x002282b3  # add x5, x5, x2
-    .word 0x0c629023  # sh x6, 192(x5)
-    .word 0x00360613  # addi x12, x12, 3
-    .word 0x0126d293  # srli x5, x13, 18
-    .word 0x0072f793  # andi x15, x5, 7
-    .word 0x0156d693  # srli x13, x13, 21
-    .word 0x40d786b3  # sub x13, x15, x13
-    .word 0x0106d293  # srli x5, x13, 16
+    .word 0x00628733  # add x14, x5, x6
+    .word 0x010772b3  # and x5, x14, x16
+    .word 0x011282b3  # add x5, x5, x17
+    .word 0x00375313  # srli x6, x14, 3
+    .word 0x01037333  # and x6, x6, x16
+    .word 0x406286b3  # sub x13, x5, x6
+    .word 0x00f6f293  # andi x5, x13, 15
+    .word 0xff828713  # addi x14, x5, -8
+    .word 0x01075293  # srli x5, x14, 16
     .word 0x0082f7b3  # and x15, x5, x8
-    .word 0x00f68333  # add x6, x13, x15
-    .word 0x00161293  # slli x5, x12, 1
-    .word 0x002282b3  # add x5, x5, x2
-    .word 0x0c629023  # sh x6, 192(x5)
+    .word 0x00f702b3  # add x5, x14, x15
+    .word 0x0c599023  # sh x5, 192(x19)
+    .word 0x0066d293  # srli x5, x13, 6
+    .word 0x00f2f293  # andi x5, x5, 15
+    .word 0xff828713  # addi x14, x5, -8
+    .word 0x01075293  # srli x5, x14, 16
+    .word 0x0082f7b3  # and x15, x5, x8
+    .word 0x00f702b3  # add x5, x14, x15
+    .word 0x0c599123  # sh x5, 194(x19)
+    .word 0x00c6d293  # srli x5, x13, 12
+    .word 0x00f2f293  # andi x5, x5, 15
+    .word 0xff828713  # addi x14, x5, -8
+    .word 0x01075293  # srli x5, x14, 16
+    .word 0x0082f7b3  # and x15, x5, x8
+    .word 0x00f702b3  # add x5, x14, x15
+    .word 0x0c599223  # sh x5, 196(x19)
+    .word 0x0126d293  # srli x5, x13, 18
+    .word 0x00f2f293  # andi x5, x5, 15
+    .word 0xff828713  # addi x14, x5, -8
+    .word 0x01075293  # srli x5, x14, 16
+    .word 0x0082f7b3  # and x15, x5, x8
+    .word 0x00f702b3  # add x5, x14, x15
+    .word 0x0c599323  # sh x5, 198(x19)
     .word 0x00150513  # addi x10, x10, 1
     .word 0x04053293  # sltiu x5, x10, 64
-    .word 0xee029ae3  # bne x5, x0, -268
+    .word 0xf20294e3  # bne x5, x0, -216
     .word 0xfff50513  # addi x10, x10, -1
     # the result
     .word 0x00000513  # addi x10, x0, 0
     # parameter 1: the array, back
-    .word 0x2dc12283  # lw x5, 732(x2)
+    .word 0x2ec12283  # lw x5, 748(x2)
     .word 0x0c010313  # addi x6, x2, 192
     .word 0x0032fe13  # andi x28, x5, 3
-    .word 0x020e0e63  # beq x28, x0, 60
+    .word 0x020e0263  # beq x28, x0, 36
     .word 0x20000393  # addi x7, x0, 512
     .word 0x005383b3  # add x7, x7, x5
     .word 0x00035e03  # lhu x28, 0(x6)
     .word 0x01c29023  # sh x28, 0(x5)
-    .word 0x00235e03  # lhu x28, 2(x6)
-    .word 0x01c29123  # sh x28, 2(x5)
-    .word 0x00435e03  # lhu x28, 4(x6)
-    .word 0x01c29223  # sh x28, 4(x5)
-    .word 0x00635e03  # lhu x28, 6(x6)
-    .word 0x01c29323  # sh x28, 6(x5)
-    .word 0x00828293  # addi x5, x5, 8
-    .word 0x00830313  # addi x6, x6, 8
-    .word 0xfc729ce3  # bne x5, x7, -40
-    .word 0x0580006f  # jal x0, 88
+    .word 0x00228293  # addi x5, x5, 2
+    .word 0x00230313  # addi x6, x6, 2
+    .word 0xfe7298e3  # bne x5, x7, -16
+    .word 0x0380006f  # jal x0, 56
     .word 0x20000393  # addi x7, x0, 512
     .word 0x005383b3  # add x7, x7, x5
     .word 0x00032e03  # lw x28, 0(x6)
@@ -215,17 +179,9 @@ mlkem_sample_cbd3:
     .word 0x01c2a423  # sw x28, 8(x5)
     .word 0x00c32e03  # lw x28, 12(x6)
     .word 0x01c2a623  # sw x28, 12(x5)
-    .word 0x01032e03  # lw x28, 16(x6)
-    .word 0x01c2a823  # sw x28, 16(x5)
-    .word 0x01432e03  # lw x28, 20(x6)
-    .word 0x01c2aa23  # sw x28, 20(x5)
-    .word 0x01832e03  # lw x28, 24(x6)
-    .word 0x01c2ac23  # sw x28, 24(x5)
-    .word 0x01c32e03  # lw x28, 28(x6)
-    .word 0x01c2ae23  # sw x28, 28(x5)
-    .word 0x02028293  # addi x5, x5, 32
-    .word 0x02030313  # addi x6, x6, 32
-    .word 0xfa729ce3  # bne x5, x7, -72
+    .word 0x01028293  # addi x5, x5, 16
+    .word 0x01030313  # addi x6, x6, 16
+    .word 0xfc729ce3  # bne x5, x7, -40
     # above the frame
     .word 0x2d010293  # addi x5, x2, 720
     # the caller's registers
@@ -233,10 +189,19 @@ mlkem_sample_cbd3:
     .cfi_restore 8
     .word 0x0042a483  # lw x9, 4(x5)
     .cfi_restore 9
+    .word 0x0082a903  # lw x18, 8(x5)
+    .cfi_restore 18
+    .word 0x00c2a983  # lw x19, 12(x5)
+    .cfi_restore 19
     # the caller's x2
-    .word 0x01028293  # addi x5, x5, 16
+    .word 0x02028293  # addi x5, x5, 32
     .cfi_def_cfa 5, 0
     # all the room, wiped upward
+    .word 0x00012023  # sw x0, 0(x2)
+    .word 0x00012223  # sw x0, 4(x2)
+    .word 0x00012423  # sw x0, 8(x2)
+    .word 0x00012623  # sw x0, 12(x2)
+    .word 0x01010113  # addi x2, x2, 16
     .word 0x00012023  # sw x0, 0(x2)
     .word 0x00012223  # sw x0, 4(x2)
     .word 0x00012423  # sw x0, 8(x2)
@@ -246,24 +211,7 @@ mlkem_sample_cbd3:
     .word 0x00012c23  # sw x0, 24(x2)
     .word 0x00012e23  # sw x0, 28(x2)
     .word 0x02010113  # addi x2, x2, 32
-    .word 0x00012023  # sw x0, 0(x2)
-    .word 0x00012223  # sw x0, 4(x2)
-    .word 0x00012423  # sw x0, 8(x2)
-    .word 0x00012623  # sw x0, 12(x2)
-    .word 0x00012823  # sw x0, 16(x2)
-    .word 0x00012a23  # sw x0, 20(x2)
-    .word 0x00012c23  # sw x0, 24(x2)
-    .word 0x00012e23  # sw x0, 28(x2)
-    .word 0x02012023  # sw x0, 32(x2)
-    .word 0x02012223  # sw x0, 36(x2)
-    .word 0x02012423  # sw x0, 40(x2)
-    .word 0x02012623  # sw x0, 44(x2)
-    .word 0x02012823  # sw x0, 48(x2)
-    .word 0x02012a23  # sw x0, 52(x2)
-    .word 0x02012c23  # sw x0, 56(x2)
-    .word 0x02012e23  # sw x0, 60(x2)
-    .word 0x04010113  # addi x2, x2, 64
-    .word 0xfa511ee3  # bne x2, x5, -68
+    .word 0xfc511ee3  # bne x2, x5, -36
     .cfi_def_cfa 2, 0
     # temporaries, wiped
     .word 0x00000293  # addi x5, x0, 0

@@ -1,4 +1,4 @@
-# p256_add: made by factc 1.0.0 function; 270 words, 176 bytes of stack, profile 1
+# p256_add: made by factc 1.0.0 function; 209 words, 144 bytes of stack, profile 1
     .option push
     .option norvc
     .option norelax
@@ -10,38 +10,22 @@
 p256_add:
     .cfi_startproc
     # room above the frame
-    .word 0xfc010113  # addi x2, x2, -64
-    .cfi_def_cfa_offset 64
+    .word 0xfe010113  # addi x2, x2, -32
+    .cfi_def_cfa_offset 32
     # the caller's registers
-    .word 0x00912023  # sw x9, 0(x2)
-    .cfi_offset 9, -64
-    .word 0x01212223  # sw x18, 4(x2)
-    .cfi_offset 18, -60
-    .word 0x01312423  # sw x19, 8(x2)
-    .cfi_offset 19, -56
-    .word 0x01412623  # sw x20, 12(x2)
-    .cfi_offset 20, -52
-    .word 0x01512823  # sw x21, 16(x2)
-    .cfi_offset 21, -48
-    .word 0x01612a23  # sw x22, 20(x2)
-    .cfi_offset 22, -44
-    .word 0x01712c23  # sw x23, 24(x2)
-    .cfi_offset 23, -40
-    .word 0x01812e23  # sw x24, 28(x2)
-    .cfi_offset 24, -36
-    .word 0x03912023  # sw x25, 32(x2)
-    .cfi_offset 25, -32
-    .word 0x03a12223  # sw x26, 36(x2)
-    .cfi_offset 26, -28
-    .word 0x03b12423  # sw x27, 40(x2)
-    .cfi_offset 27, -24
+    .word 0x00812023  # sw x8, 0(x2)
+    .cfi_offset 8, -32
+    .word 0x00912223  # sw x9, 4(x2)
+    .cfi_offset 9, -28
+    .word 0x01212423  # sw x18, 8(x2)
+    .cfi_offset 18, -24
     # arguments that are needed behind the body
-    .word 0x02a12a23  # sw x10, 52(x2)
-    .word 0x02b12c23  # sw x11, 56(x2)
-    .word 0x02c12e23  # sw x12, 60(x2)
+    .word 0x00a12a23  # sw x10, 20(x2)
+    .word 0x00b12c23  # sw x11, 24(x2)
+    .word 0x00c12e23  # sw x12, 28(x2)
     # the frame's base
     .word 0xf9010113  # addi x2, x2, -112
-    .cfi_def_cfa 2, 176
+    .cfi_def_cfa 2, 144
     # parameter 0: an array
     .word 0x00050293  # addi x5, x10, 0
     .word 0x00010313  # addi x6, x2, 0
@@ -81,150 +65,121 @@ p256_add:
     .word 0x01c2ae03  # lw x28, 28(x5)
     .word 0x01c32e23  # sw x28, 28(x6)
     # the body
-    .word 0x00012283  # lw x5, 0(x2)
+    .word 0x00012483  # lw x9, 0(x2)
     .word 0x02012303  # lw x6, 32(x2)
-    .word 0x00628533  # add x10, x5, x6
-    .word 0x00012303  # lw x6, 0(x2)
-    .word 0x006534b3  # sltu x9, x10, x6
-    .word 0x00050713  # addi x14, x10, 0
-    .word 0x00412283  # lw x5, 4(x2)
+    .word 0x00648533  # add x10, x9, x6
+    .word 0x00050593  # addi x11, x10, 0
+    .word 0x00953433  # sltu x8, x10, x9
+    .word 0x00412483  # lw x9, 4(x2)
     .word 0x02412303  # lw x6, 36(x2)
-    .word 0x00628533  # add x10, x5, x6
-    .word 0x009505b3  # add x11, x10, x9
-    .word 0x00412303  # lw x6, 4(x2)
-    .word 0x006532b3  # sltu x5, x10, x6
-    .word 0x0095b333  # sltu x6, x11, x9
-    .word 0x006284b3  # add x9, x5, x6
-    .word 0x00058793  # addi x15, x11, 0
-    .word 0x00812283  # lw x5, 8(x2)
+    .word 0x00648533  # add x10, x9, x6
+    .word 0x00850633  # add x12, x10, x8
+    .word 0x009532b3  # sltu x5, x10, x9
+    .word 0x00863333  # sltu x6, x12, x8
+    .word 0x00628433  # add x8, x5, x6
+    .word 0x00812483  # lw x9, 8(x2)
     .word 0x02812303  # lw x6, 40(x2)
-    .word 0x00628533  # add x10, x5, x6
-    .word 0x009505b3  # add x11, x10, x9
-    .word 0x00812303  # lw x6, 8(x2)
-    .word 0x006532b3  # sltu x5, x10, x6
-    .word 0x0095b333  # sltu x6, x11, x9
-    .word 0x006284b3  # add x9, x5, x6
-    .word 0x00058813  # addi x16, x11, 0
-    .word 0x00c12283  # lw x5, 12(x2)
+    .word 0x00648533  # add x10, x9, x6
+    .word 0x008506b3  # add x13, x10, x8
+    .word 0x009532b3  # sltu x5, x10, x9
+    .word 0x0086b333  # sltu x6, x13, x8
+    .word 0x00628433  # add x8, x5, x6
+    .word 0x00c12483  # lw x9, 12(x2)
     .word 0x02c12303  # lw x6, 44(x2)
-    .word 0x00628533  # add x10, x5, x6
-    .word 0x009505b3  # add x11, x10, x9
-    .word 0x00c12303  # lw x6, 12(x2)
-    .word 0x006532b3  # sltu x5, x10, x6
-    .word 0x0095b333  # sltu x6, x11, x9
-    .word 0x006284b3  # add x9, x5, x6
-    .word 0x00058893  # addi x17, x11, 0
-    .word 0x01012283  # lw x5, 16(x2)
+    .word 0x00648533  # add x10, x9, x6
+    .word 0x00850733  # add x14, x10, x8
+    .word 0x009532b3  # sltu x5, x10, x9
+    .word 0x00873333  # sltu x6, x14, x8
+    .word 0x00628433  # add x8, x5, x6
+    .word 0x01012483  # lw x9, 16(x2)
     .word 0x03012303  # lw x6, 48(x2)
-    .word 0x00628533  # add x10, x5, x6
-    .word 0x009505b3  # add x11, x10, x9
-    .word 0x01012303  # lw x6, 16(x2)
-    .word 0x006532b3  # sltu x5, x10, x6
-    .word 0x0095b333  # sltu x6, x11, x9
-    .word 0x006284b3  # add x9, x5, x6
-    .word 0x00058913  # addi x18, x11, 0
-    .word 0x01412283  # lw x5, 20(x2)
+    .word 0x00648533  # add x10, x9, x6
+    .word 0x008507b3  # add x15, x10, x8
+    .word 0x009532b3  # sltu x5, x10, x9
+    .word 0x0087b333  # sltu x6, x15, x8
+    .word 0x00628433  # add x8, x5, x6
+    .word 0x01412483  # lw x9, 20(x2)
     .word 0x03412303  # lw x6, 52(x2)
-    .word 0x00628533  # add x10, x5, x6
-    .word 0x009505b3  # add x11, x10, x9
-    .word 0x01412303  # lw x6, 20(x2)
-    .word 0x006532b3  # sltu x5, x10, x6
-    .word 0x0095b333  # sltu x6, x11, x9
-    .word 0x006284b3  # add x9, x5, x6
-    .word 0x00058993  # addi x19, x11, 0
-    .word 0x01812283  # lw x5, 24(x2)
+    .word 0x00648533  # add x10, x9, x6
+    .word 0x00850833  # add x16, x10, x8
+    .word 0x009532b3  # sltu x5, x10, x9
+    .word 0x00883333  # sltu x6, x16, x8
+    .word 0x00628433  # add x8, x5, x6
+    .word 0x01812483  # lw x9, 24(x2)
     .word 0x03812303  # lw x6, 56(x2)
-    .word 0x00628533  # add x10, x5, x6
-    .word 0x009505b3  # add x11, x10, x9
-    .word 0x01812303  # lw x6, 24(x2)
-    .word 0x006532b3  # sltu x5, x10, x6
-    .word 0x0095b333  # sltu x6, x11, x9
-    .word 0x006284b3  # add x9, x5, x6
-    .word 0x00058a13  # addi x20, x11, 0
-    .word 0x01c12283  # lw x5, 28(x2)
+    .word 0x00648533  # add x10, x9, x6
+    .word 0x008508b3  # add x17, x10, x8
+    .word 0x009532b3  # sltu x5, x10, x9
+    .word 0x0088b333  # sltu x6, x17, x8
+    .word 0x00628433  # add x8, x5, x6
+    .word 0x01c12483  # lw x9, 28(x2)
     .word 0x03c12303  # lw x6, 60(x2)
-    .word 0x00628533  # add x10, x5, x6
-    .word 0x009505b3  # add x11, x10, x9
-    .word 0x01c12303  # lw x6, 28(x2)
-    .word 0x006532b3  # sltu x5, x10, x6
-    .word 0x0095b333  # sltu x6, x11, x9
-    .word 0x006284b3  # add x9, x5, x6
-    .word 0x00170613  # addi x12, x14, 1
-    .word 0x00060a93  # addi x21, x12, 0
-    .word 0xfff73513  # sltiu x10, x14, -1
-    .word 0x00178613  # addi x12, x15, 1
-    .word 0x40a60b33  # sub x22, x12, x10
-    .word 0xfff7b293  # sltiu x5, x15, -1
-    .word 0x00a63333  # sltu x6, x12, x10
-    .word 0x00628533  # add x10, x5, x6
-    .word 0x00180613  # addi x12, x16, 1
-    .word 0x40a60bb3  # sub x23, x12, x10
-    .word 0xfff83293  # sltiu x5, x16, -1
-    .word 0x00a63333  # sltu x6, x12, x10
-    .word 0x00628533  # add x10, x5, x6
-    .word 0x40a88c33  # sub x24, x17, x10
-    .word 0x00a8b533  # sltu x10, x17, x10
-    .word 0x40a90cb3  # sub x25, x18, x10
-    .word 0x00a93533  # sltu x10, x18, x10
-    .word 0x40a98d33  # sub x26, x19, x10
-    .word 0x00a9b533  # sltu x10, x19, x10
-    .word 0xfffa0613  # addi x12, x20, -1
-    .word 0x40a60db3  # sub x27, x12, x10
-    .word 0x001a3293  # sltiu x5, x20, 1
-    .word 0x00a63333  # sltu x6, x12, x10
-    .word 0x00628533  # add x10, x5, x6
-    .word 0x00158613  # addi x12, x11, 1
-    .word 0x40a602b3  # sub x5, x12, x10
-    .word 0x06512023  # sw x5, 96(x2)
-    .word 0xfff5b293  # sltiu x5, x11, -1
-    .word 0x00a63333  # sltu x6, x12, x10
-    .word 0x00628533  # add x10, x5, x6
-    .word 0x00a4b6b3  # sltu x13, x9, x10
-    .word 0x40d002b3  # sub x5, x0, x13
-    .word 0x01574333  # xor x6, x14, x21
-    .word 0x00537333  # and x6, x6, x5
-    .word 0x006ac2b3  # xor x5, x21, x6
-    .word 0x04512023  # sw x5, 64(x2)
-    .word 0x40d002b3  # sub x5, x0, x13
-    .word 0x0167c333  # xor x6, x15, x22
-    .word 0x00537333  # and x6, x6, x5
-    .word 0x006b42b3  # xor x5, x22, x6
-    .word 0x04512223  # sw x5, 68(x2)
-    .word 0x40d002b3  # sub x5, x0, x13
-    .word 0x01784333  # xor x6, x16, x23
-    .word 0x00537333  # and x6, x6, x5
-    .word 0x006bc2b3  # xor x5, x23, x6
-    .word 0x04512423  # sw x5, 72(x2)
-    .word 0x40d002b3  # sub x5, x0, x13
-    .word 0x0188c333  # xor x6, x17, x24
-    .word 0x00537333  # and x6, x6, x5
-    .word 0x006c42b3  # xor x5, x24, x6
-    .word 0x04512623  # sw x5, 76(x2)
-    .word 0x40d002b3  # sub x5, x0, x13
-    .word 0x01994333  # xor x6, x18, x25
-    .word 0x00537333  # and x6, x6, x5
-    .word 0x006cc2b3  # xor x5, x25, x6
-    .word 0x04512823  # sw x5, 80(x2)
-    .word 0x40d002b3  # sub x5, x0, x13
-    .word 0x01a9c333  # xor x6, x19, x26
-    .word 0x00537333  # and x6, x6, x5
-    .word 0x006d42b3  # xor x5, x26, x6
-    .word 0x04512a23  # sw x5, 84(x2)
-    .word 0x40d002b3  # sub x5, x0, x13
-    .word 0x01ba4333  # xor x6, x20, x27
-    .word 0x00537333  # and x6, x6, x5
-    .word 0x006dc2b3  # xor x5, x27, x6
-    .word 0x04512c23  # sw x5, 88(x2)
-    .word 0x06012383  # lw x7, 96(x2)
-    .word 0x40d002b3  # sub x5, x0, x13
-    .word 0x0075c333  # xor x6, x11, x7
-    .word 0x00537333  # and x6, x6, x5
-    .word 0x0063c2b3  # xor x5, x7, x6
-    .word 0x04512e23  # sw x5, 92(x2)
+    .word 0x00648533  # add x10, x9, x6
+    .word 0x00850933  # add x18, x10, x8
+    .word 0x009532b3  # sltu x5, x10, x9
+    .word 0x00893333  # sltu x6, x18, x8
+    .word 0x00628433  # add x8, x5, x6
+    .word 0x00158593  # addi x11, x11, 1
+    .word 0x0015b493  # sltiu x9, x11, 1
+    .word 0x00960633  # add x12, x12, x9
+    .word 0x009634b3  # sltu x9, x12, x9
+    .word 0x009686b3  # add x13, x13, x9
+    .word 0x0096b4b3  # sltu x9, x13, x9
+    .word 0x00100293  # addi x5, x0, 1
+    .word 0x409284b3  # sub x9, x5, x9
+    .word 0x00070513  # addi x10, x14, 0
+    .word 0x40970733  # sub x14, x14, x9
+    .word 0x009534b3  # sltu x9, x10, x9
+    .word 0x00078513  # addi x10, x15, 0
+    .word 0x409787b3  # sub x15, x15, x9
+    .word 0x009534b3  # sltu x9, x10, x9
+    .word 0x00080513  # addi x10, x16, 0
+    .word 0x40980833  # sub x16, x16, x9
+    .word 0x009534b3  # sltu x9, x10, x9
+    .word 0x00148493  # addi x9, x9, 1
+    .word 0x00088513  # addi x10, x17, 0
+    .word 0x409888b3  # sub x17, x17, x9
+    .word 0x00100293  # addi x5, x0, 1
+    .word 0x00953333  # sltu x6, x10, x9
+    .word 0x406284b3  # sub x9, x5, x6
+    .word 0x00990933  # add x18, x18, x9
+    .word 0x009934b3  # sltu x9, x18, x9
+    .word 0x00100293  # addi x5, x0, 1
+    .word 0x408282b3  # sub x5, x5, x8
+    .word 0x409284b3  # sub x9, x5, x9
+    .word 0x00058513  # addi x10, x11, 0
+    .word 0x409585b3  # sub x11, x11, x9
+    .word 0x00953433  # sltu x8, x10, x9
+    .word 0x00060513  # addi x10, x12, 0
+    .word 0x40860633  # sub x12, x12, x8
+    .word 0x00853433  # sltu x8, x10, x8
+    .word 0x00068513  # addi x10, x13, 0
+    .word 0x408686b3  # sub x13, x13, x8
+    .word 0x00853433  # sltu x8, x10, x8
+    .word 0x40848433  # sub x8, x9, x8
+    .word 0x00870733  # add x14, x14, x8
+    .word 0x00873433  # sltu x8, x14, x8
+    .word 0x008787b3  # add x15, x15, x8
+    .word 0x0087b433  # sltu x8, x15, x8
+    .word 0x00880833  # add x16, x16, x8
+    .word 0x00883433  # sltu x8, x16, x8
+    .word 0x00940433  # add x8, x8, x9
+    .word 0x008888b3  # add x17, x17, x8
+    .word 0x0088b433  # sltu x8, x17, x8
+    .word 0x008902b3  # add x5, x18, x8
+    .word 0x40928933  # sub x18, x5, x9
+    .word 0x04b12023  # sw x11, 64(x2)
+    .word 0x04c12223  # sw x12, 68(x2)
+    .word 0x04d12423  # sw x13, 72(x2)
+    .word 0x04e12623  # sw x14, 76(x2)
+    .word 0x04f12823  # sw x15, 80(x2)
+    .word 0x05012a23  # sw x16, 84(x2)
+    .word 0x05112c23  # sw x17, 88(x2)
+    .word 0x05212e23  # sw x18, 92(x2)
     # the result
     .word 0x00000513  # addi x10, x0, 0
     # parameter 2: the array, back
-    .word 0x0ac12283  # lw x5, 172(x2)
+    .word 0x08c12283  # lw x5, 140(x2)
     .word 0x04010313  # addi x6, x2, 64
     .word 0x00032e03  # lw x28, 0(x6)
     .word 0x01c2a023  # sw x28, 0(x5)
@@ -245,45 +200,21 @@ p256_add:
     # above the frame
     .word 0x07010293  # addi x5, x2, 112
     # the caller's registers
-    .word 0x0002a483  # lw x9, 0(x5)
+    .word 0x0002a403  # lw x8, 0(x5)
+    .cfi_restore 8
+    .word 0x0042a483  # lw x9, 4(x5)
     .cfi_restore 9
-    .word 0x0042a903  # lw x18, 4(x5)
+    .word 0x0082a903  # lw x18, 8(x5)
     .cfi_restore 18
-    .word 0x0082a983  # lw x19, 8(x5)
-    .cfi_restore 19
-    .word 0x00c2aa03  # lw x20, 12(x5)
-    .cfi_restore 20
-    .word 0x0102aa83  # lw x21, 16(x5)
-    .cfi_restore 21
-    .word 0x0142ab03  # lw x22, 20(x5)
-    .cfi_restore 22
-    .word 0x0182ab83  # lw x23, 24(x5)
-    .cfi_restore 23
-    .word 0x01c2ac03  # lw x24, 28(x5)
-    .cfi_restore 24
-    .word 0x0202ac83  # lw x25, 32(x5)
-    .cfi_restore 25
-    .word 0x0242ad03  # lw x26, 36(x5)
-    .cfi_restore 26
-    .word 0x0282ad83  # lw x27, 40(x5)
-    .cfi_restore 27
     # the caller's x2
-    .word 0x04028293  # addi x5, x5, 64
+    .word 0x02028293  # addi x5, x5, 32
     .cfi_def_cfa 5, 0
     # all the room, wiped upward
     .word 0x00012023  # sw x0, 0(x2)
     .word 0x00012223  # sw x0, 4(x2)
     .word 0x00012423  # sw x0, 8(x2)
     .word 0x00012623  # sw x0, 12(x2)
-    .word 0x00012823  # sw x0, 16(x2)
-    .word 0x00012a23  # sw x0, 20(x2)
-    .word 0x00012c23  # sw x0, 24(x2)
-    .word 0x00012e23  # sw x0, 28(x2)
-    .word 0x02012023  # sw x0, 32(x2)
-    .word 0x02012223  # sw x0, 36(x2)
-    .word 0x02012423  # sw x0, 40(x2)
-    .word 0x02012623  # sw x0, 44(x2)
-    .word 0x03010113  # addi x2, x2, 48
+    .word 0x01010113  # addi x2, x2, 16
     .word 0x00012023  # sw x0, 0(x2)
     .word 0x00012223  # sw x0, 4(x2)
     .word 0x00012423  # sw x0, 8(x2)
@@ -292,16 +223,8 @@ p256_add:
     .word 0x00012a23  # sw x0, 20(x2)
     .word 0x00012c23  # sw x0, 24(x2)
     .word 0x00012e23  # sw x0, 28(x2)
-    .word 0x02012023  # sw x0, 32(x2)
-    .word 0x02012223  # sw x0, 36(x2)
-    .word 0x02012423  # sw x0, 40(x2)
-    .word 0x02012623  # sw x0, 44(x2)
-    .word 0x02012823  # sw x0, 48(x2)
-    .word 0x02012a23  # sw x0, 52(x2)
-    .word 0x02012c23  # sw x0, 56(x2)
-    .word 0x02012e23  # sw x0, 60(x2)
-    .word 0x04010113  # addi x2, x2, 64
-    .word 0xfa511ee3  # bne x2, x5, -68
+    .word 0x02010113  # addi x2, x2, 32
+    .word 0xfc511ee3  # bne x2, x5, -36
     .cfi_def_cfa 2, 0
     # temporaries, wiped
     .word 0x00000293  # addi x5, x0, 0

@@ -1,4 +1,4 @@
-# p256_subtract: made by factc 1.0.0 function; 223 words, 144 bytes of stack, profile 1
+# p256_subtract: made by factc 1.0.0 function; 183 words, 144 bytes of stack, profile 1
     .option push
     .option norvc
     .option norelax
@@ -19,6 +19,8 @@ p256_subtract:
     .cfi_offset 9, -28
     .word 0x01212423  # sw x18, 8(x2)
     .cfi_offset 18, -24
+    .word 0x01312623  # sw x19, 12(x2)
+    .cfi_offset 19, -20
     # arguments that are needed behind the body
     .word 0x00a12a23  # sw x10, 20(x2)
     .word 0x00b12c23  # sw x11, 24(x2)
@@ -65,123 +67,89 @@ p256_subtract:
     .word 0x01c2ae03  # lw x28, 28(x5)
     .word 0x01c32e23  # sw x28, 28(x6)
     # the body
-    .word 0x00012283  # lw x5, 0(x2)
-    .word 0x02012303  # lw x6, 32(x2)
-    .word 0x40628433  # sub x8, x5, x6
-    .word 0x00040613  # addi x12, x8, 0
-    .word 0x00012283  # lw x5, 0(x2)
-    .word 0x02012303  # lw x6, 32(x2)
-    .word 0x0062b5b3  # sltu x11, x5, x6
-    .word 0x00412283  # lw x5, 4(x2)
-    .word 0x02412303  # lw x6, 36(x2)
-    .word 0x40628433  # sub x8, x5, x6
-    .word 0x40b40533  # sub x10, x8, x11
-    .word 0x00412283  # lw x5, 4(x2)
-    .word 0x02412303  # lw x6, 36(x2)
-    .word 0x0062b2b3  # sltu x5, x5, x6
-    .word 0x00b43333  # sltu x6, x8, x11
-    .word 0x006285b3  # add x11, x5, x6
-    .word 0x00812283  # lw x5, 8(x2)
-    .word 0x02812303  # lw x6, 40(x2)
-    .word 0x40628433  # sub x8, x5, x6
-    .word 0x40b406b3  # sub x13, x8, x11
-    .word 0x00812283  # lw x5, 8(x2)
-    .word 0x02812303  # lw x6, 40(x2)
-    .word 0x0062b2b3  # sltu x5, x5, x6
-    .word 0x00b43333  # sltu x6, x8, x11
-    .word 0x006285b3  # add x11, x5, x6
-    .word 0x00c12283  # lw x5, 12(x2)
-    .word 0x02c12303  # lw x6, 44(x2)
-    .word 0x40628433  # sub x8, x5, x6
-    .word 0x40b40733  # sub x14, x8, x11
-    .word 0x00c12283  # lw x5, 12(x2)
-    .word 0x02c12303  # lw x6, 44(x2)
-    .word 0x0062b2b3  # sltu x5, x5, x6
-    .word 0x00b43333  # sltu x6, x8, x11
-    .word 0x006285b3  # add x11, x5, x6
-    .word 0x01012283  # lw x5, 16(x2)
-    .word 0x03012303  # lw x6, 48(x2)
-    .word 0x40628433  # sub x8, x5, x6
-    .word 0x40b407b3  # sub x15, x8, x11
-    .word 0x01012283  # lw x5, 16(x2)
-    .word 0x03012303  # lw x6, 48(x2)
-    .word 0x0062b2b3  # sltu x5, x5, x6
-    .word 0x00b43333  # sltu x6, x8, x11
-    .word 0x006285b3  # add x11, x5, x6
-    .word 0x01412283  # lw x5, 20(x2)
-    .word 0x03412303  # lw x6, 52(x2)
-    .word 0x40628433  # sub x8, x5, x6
-    .word 0x40b40833  # sub x16, x8, x11
-    .word 0x01412283  # lw x5, 20(x2)
-    .word 0x03412303  # lw x6, 52(x2)
-    .word 0x0062b2b3  # sltu x5, x5, x6
-    .word 0x00b43333  # sltu x6, x8, x11
-    .word 0x006285b3  # add x11, x5, x6
-    .word 0x01812283  # lw x5, 24(x2)
-    .word 0x03812303  # lw x6, 56(x2)
-    .word 0x40628433  # sub x8, x5, x6
-    .word 0x40b408b3  # sub x17, x8, x11
-    .word 0x01812283  # lw x5, 24(x2)
-    .word 0x03812303  # lw x6, 56(x2)
-    .word 0x0062b2b3  # sltu x5, x5, x6
-    .word 0x00b43333  # sltu x6, x8, x11
-    .word 0x006285b3  # add x11, x5, x6
-    .word 0x01c12283  # lw x5, 28(x2)
-    .word 0x03c12303  # lw x6, 60(x2)
-    .word 0x40628433  # sub x8, x5, x6
-    .word 0x40b40933  # sub x18, x8, x11
-    .word 0x01c12283  # lw x5, 28(x2)
-    .word 0x03c12303  # lw x6, 60(x2)
-    .word 0x0062b2b3  # sltu x5, x5, x6
-    .word 0x00b43333  # sltu x6, x8, x11
-    .word 0x006285b3  # add x11, x5, x6
-    .word 0x40b004b3  # sub x9, x0, x11
-    .word 0x009605b3  # add x11, x12, x9
-    .word 0x0095b433  # sltu x8, x11, x9
-    .word 0x04b12023  # sw x11, 64(x2)
-    .word 0x009505b3  # add x11, x10, x9
-    .word 0x00858633  # add x12, x11, x8
-    .word 0x0095b2b3  # sltu x5, x11, x9
-    .word 0x00863333  # sltu x6, x12, x8
+    .word 0x00012483  # lw x9, 0(x2)
+    .word 0x02012503  # lw x10, 32(x2)
+    .word 0x40a485b3  # sub x11, x9, x10
+    .word 0x00058613  # addi x12, x11, 0
+    .word 0x00a4b433  # sltu x8, x9, x10
+    .word 0x00412483  # lw x9, 4(x2)
+    .word 0x02412503  # lw x10, 36(x2)
+    .word 0x40a485b3  # sub x11, x9, x10
+    .word 0x408586b3  # sub x13, x11, x8
+    .word 0x00a4b2b3  # sltu x5, x9, x10
+    .word 0x0085b333  # sltu x6, x11, x8
     .word 0x00628433  # add x8, x5, x6
-    .word 0x04c12223  # sw x12, 68(x2)
-    .word 0x009685b3  # add x11, x13, x9
-    .word 0x00858633  # add x12, x11, x8
-    .word 0x0095b2b3  # sltu x5, x11, x9
-    .word 0x00863333  # sltu x6, x12, x8
+    .word 0x00812483  # lw x9, 8(x2)
+    .word 0x02812503  # lw x10, 40(x2)
+    .word 0x40a485b3  # sub x11, x9, x10
+    .word 0x40858733  # sub x14, x11, x8
+    .word 0x00a4b2b3  # sltu x5, x9, x10
+    .word 0x0085b333  # sltu x6, x11, x8
     .word 0x00628433  # add x8, x5, x6
-    .word 0x04c12423  # sw x12, 72(x2)
-    .word 0x0004f513  # andi x10, x9, 0
-    .word 0x00a705b3  # add x11, x14, x10
-    .word 0x00858633  # add x12, x11, x8
-    .word 0x00a5b2b3  # sltu x5, x11, x10
-    .word 0x00863333  # sltu x6, x12, x8
+    .word 0x00c12483  # lw x9, 12(x2)
+    .word 0x02c12503  # lw x10, 44(x2)
+    .word 0x40a485b3  # sub x11, x9, x10
+    .word 0x408587b3  # sub x15, x11, x8
+    .word 0x00a4b2b3  # sltu x5, x9, x10
+    .word 0x0085b333  # sltu x6, x11, x8
     .word 0x00628433  # add x8, x5, x6
-    .word 0x04c12623  # sw x12, 76(x2)
-    .word 0x0004f513  # andi x10, x9, 0
-    .word 0x00a785b3  # add x11, x15, x10
-    .word 0x00858633  # add x12, x11, x8
-    .word 0x00a5b2b3  # sltu x5, x11, x10
-    .word 0x00863333  # sltu x6, x12, x8
+    .word 0x01012483  # lw x9, 16(x2)
+    .word 0x03012503  # lw x10, 48(x2)
+    .word 0x40a485b3  # sub x11, x9, x10
+    .word 0x40858833  # sub x16, x11, x8
+    .word 0x00a4b2b3  # sltu x5, x9, x10
+    .word 0x0085b333  # sltu x6, x11, x8
     .word 0x00628433  # add x8, x5, x6
-    .word 0x04c12823  # sw x12, 80(x2)
-    .word 0x0004f513  # andi x10, x9, 0
-    .word 0x00a805b3  # add x11, x16, x10
-    .word 0x00858633  # add x12, x11, x8
-    .word 0x00a5b2b3  # sltu x5, x11, x10
-    .word 0x00863333  # sltu x6, x12, x8
+    .word 0x01412483  # lw x9, 20(x2)
+    .word 0x03412503  # lw x10, 52(x2)
+    .word 0x40a485b3  # sub x11, x9, x10
+    .word 0x408588b3  # sub x17, x11, x8
+    .word 0x00a4b2b3  # sltu x5, x9, x10
+    .word 0x0085b333  # sltu x6, x11, x8
     .word 0x00628433  # add x8, x5, x6
-    .word 0x04c12a23  # sw x12, 84(x2)
-    .word 0x0014f513  # andi x10, x9, 1
-    .word 0x00a885b3  # add x11, x17, x10
-    .word 0x00858633  # add x12, x11, x8
-    .word 0x00a5b2b3  # sltu x5, x11, x10
-    .word 0x00863333  # sltu x6, x12, x8
+    .word 0x01812483  # lw x9, 24(x2)
+    .word 0x03812503  # lw x10, 56(x2)
+    .word 0x40a485b3  # sub x11, x9, x10
+    .word 0x40858933  # sub x18, x11, x8
+    .word 0x00a4b2b3  # sltu x5, x9, x10
+    .word 0x0085b333  # sltu x6, x11, x8
     .word 0x00628433  # add x8, x5, x6
-    .word 0x04c12c23  # sw x12, 88(x2)
-    .word 0x009905b3  # add x11, x18, x9
-    .word 0x00858633  # add x12, x11, x8
-    .word 0x04c12e23  # sw x12, 92(x2)
+    .word 0x01c12483  # lw x9, 28(x2)
+    .word 0x03c12503  # lw x10, 60(x2)
+    .word 0x40a485b3  # sub x11, x9, x10
+    .word 0x408589b3  # sub x19, x11, x8
+    .word 0x00a4b2b3  # sltu x5, x9, x10
+    .word 0x0085b333  # sltu x6, x11, x8
+    .word 0x00628433  # add x8, x5, x6
+    .word 0x00060513  # addi x10, x12, 0
+    .word 0x40860633  # sub x12, x12, x8
+    .word 0x008534b3  # sltu x9, x10, x8
+    .word 0x00068513  # addi x10, x13, 0
+    .word 0x409686b3  # sub x13, x13, x9
+    .word 0x009534b3  # sltu x9, x10, x9
+    .word 0x00070513  # addi x10, x14, 0
+    .word 0x40970733  # sub x14, x14, x9
+    .word 0x009534b3  # sltu x9, x10, x9
+    .word 0x409404b3  # sub x9, x8, x9
+    .word 0x009787b3  # add x15, x15, x9
+    .word 0x0097b4b3  # sltu x9, x15, x9
+    .word 0x00980833  # add x16, x16, x9
+    .word 0x009834b3  # sltu x9, x16, x9
+    .word 0x009888b3  # add x17, x17, x9
+    .word 0x0098b4b3  # sltu x9, x17, x9
+    .word 0x008484b3  # add x9, x9, x8
+    .word 0x00990933  # add x18, x18, x9
+    .word 0x009934b3  # sltu x9, x18, x9
+    .word 0x009982b3  # add x5, x19, x9
+    .word 0x408289b3  # sub x19, x5, x8
+    .word 0x04c12023  # sw x12, 64(x2)
+    .word 0x04d12223  # sw x13, 68(x2)
+    .word 0x04e12423  # sw x14, 72(x2)
+    .word 0x04f12623  # sw x15, 76(x2)
+    .word 0x05012823  # sw x16, 80(x2)
+    .word 0x05112a23  # sw x17, 84(x2)
+    .word 0x05212c23  # sw x18, 88(x2)
+    .word 0x05312e23  # sw x19, 92(x2)
     # the result
     .word 0x00000513  # addi x10, x0, 0
     # parameter 2: the array, back
@@ -212,6 +180,8 @@ p256_subtract:
     .cfi_restore 9
     .word 0x0082a903  # lw x18, 8(x5)
     .cfi_restore 18
+    .word 0x00c2a983  # lw x19, 12(x5)
+    .cfi_restore 19
     # the caller's x2
     .word 0x02028293  # addi x5, x5, 32
     .cfi_def_cfa 5, 0
@@ -229,16 +199,8 @@ p256_subtract:
     .word 0x00012a23  # sw x0, 20(x2)
     .word 0x00012c23  # sw x0, 24(x2)
     .word 0x00012e23  # sw x0, 28(x2)
-    .word 0x02012023  # sw x0, 32(x2)
-    .word 0x02012223  # sw x0, 36(x2)
-    .word 0x02012423  # sw x0, 40(x2)
-    .word 0x02012623  # sw x0, 44(x2)
-    .word 0x02012823  # sw x0, 48(x2)
-    .word 0x02012a23  # sw x0, 52(x2)
-    .word 0x02012c23  # sw x0, 56(x2)
-    .word 0x02012e23  # sw x0, 60(x2)
-    .word 0x04010113  # addi x2, x2, 64
-    .word 0xfa511ee3  # bne x2, x5, -68
+    .word 0x02010113  # addi x2, x2, 32
+    .word 0xfc511ee3  # bne x2, x5, -36
     .cfi_def_cfa 2, 0
     # temporaries, wiped
     .word 0x00000293  # addi x5, x0, 0

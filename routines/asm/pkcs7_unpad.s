@@ -1,4 +1,4 @@
-# pkcs7_unpad: made by factc 1.0.0 function; 190 words, 48 bytes of stack, profile 1
+# pkcs7_unpad: made by factc 1.0.0 function; 110 words, 48 bytes of stack, profile 1
     .option push
     .option norvc
     .option norelax
@@ -25,20 +25,14 @@ pkcs7_unpad:
     .word 0x00050293  # addi x5, x10, 0
     .word 0x00010313  # addi x6, x2, 0
     .word 0x0032fe13  # andi x28, x5, 3
-    .word 0x020e0e63  # beq x28, x0, 60
+    .word 0x020e0263  # beq x28, x0, 36
     .word 0x01000393  # addi x7, x0, 16
     .word 0x005383b3  # add x7, x7, x5
     .word 0x0002ce03  # lbu x28, 0(x5)
     .word 0x01c30023  # sb x28, 0(x6)
-    .word 0x0012ce03  # lbu x28, 1(x5)
-    .word 0x01c300a3  # sb x28, 1(x6)
-    .word 0x0022ce03  # lbu x28, 2(x5)
-    .word 0x01c30123  # sb x28, 2(x6)
-    .word 0x0032ce03  # lbu x28, 3(x5)
-    .word 0x01c301a3  # sb x28, 3(x6)
-    .word 0x00428293  # addi x5, x5, 4
-    .word 0x00430313  # addi x6, x6, 4
-    .word 0xfc729ce3  # bne x5, x7, -40
+    .word 0x00128293  # addi x5, x5, 1
+    .word 0x00130313  # addi x6, x6, 1
+    .word 0xfe7298e3  # bne x5, x7, -16
     .word 0x0240006f  # jal x0, 36
     .word 0x0002ae03  # lw x28, 0(x5)
     .word 0x01c32023  # sw x28, 0(x6)
@@ -49,6 +43,9 @@ pkcs7_unpad:
     .word 0x00c2ae03  # lw x28, 12(x5)
     .word 0x01c32623  # sw x28, 12(x6)
     # the body
+    .word 0x00000593  # addi x11, x0, 0
+    .word 0x00000613  # addi x12, x0, 0
+    .word 0x002606b3  # add x13, x12, x2
     .word 0x00f14403  # lbu x8, 15(x2)
     .word 0xfff40293  # addi x5, x8, -1
     .word 0x01000313  # addi x6, x0, 16
@@ -56,116 +53,37 @@ pkcs7_unpad:
     .word 0x0062e4b3  # or x9, x5, x6
     .word 0x00f00293  # addi x5, x0, 15
     .word 0x40828533  # sub x10, x5, x8
-    .word 0x00014303  # lbu x6, 0(x2)
+    .word 0x00000593  # addi x11, x0, 0
+    .word 0x00259613  # slli x12, x11, 2
+    .word 0x002606b3  # add x13, x12, x2
+    .word 0x0006c303  # lbu x6, 0(x13)
     .word 0x00834333  # xor x6, x6, x8
     .word 0x00831313  # slli x6, x6, 8
     .word 0x00a37333  # and x6, x6, x10
     .word 0x0064e4b3  # or x9, x9, x6
-    .word 0x00e00293  # addi x5, x0, 14
-    .word 0x40828533  # sub x10, x5, x8
-    .word 0x00114303  # lbu x6, 1(x2)
+    .word 0xfff50513  # addi x10, x10, -1
+    .word 0x0016c303  # lbu x6, 1(x13)
     .word 0x00834333  # xor x6, x6, x8
     .word 0x00831313  # slli x6, x6, 8
     .word 0x00a37333  # and x6, x6, x10
     .word 0x0064e4b3  # or x9, x9, x6
-    .word 0x00d00293  # addi x5, x0, 13
-    .word 0x40828533  # sub x10, x5, x8
-    .word 0x00214303  # lbu x6, 2(x2)
+    .word 0xfff50513  # addi x10, x10, -1
+    .word 0x0026c303  # lbu x6, 2(x13)
     .word 0x00834333  # xor x6, x6, x8
     .word 0x00831313  # slli x6, x6, 8
     .word 0x00a37333  # and x6, x6, x10
     .word 0x0064e4b3  # or x9, x9, x6
-    .word 0x00c00293  # addi x5, x0, 12
-    .word 0x40828533  # sub x10, x5, x8
-    .word 0x00314303  # lbu x6, 3(x2)
+    .word 0xfff50513  # addi x10, x10, -1
+    .word 0x0036c303  # lbu x6, 3(x13)
     .word 0x00834333  # xor x6, x6, x8
     .word 0x00831313  # slli x6, x6, 8
     .word 0x00a37333  # and x6, x6, x10
     .word 0x0064e4b3  # or x9, x9, x6
-    .word 0x00b00293  # addi x5, x0, 11
-    .word 0x40828533  # sub x10, x5, x8
-    .word 0x00414303  # lbu x6, 4(x2)
-    .word 0x00834333  # xor x6, x6, x8
-    .word 0x00831313  # slli x6, x6, 8
-    .word 0x00a37333  # and x6, x6, x10
-    .word 0x0064e4b3  # or x9, x9, x6
-    .word 0x00a00293  # addi x5, x0, 10
-    .word 0x40828533  # sub x10, x5, x8
-    .word 0x00514303  # lbu x6, 5(x2)
-    .word 0x00834333  # xor x6, x6, x8
-    .word 0x00831313  # slli x6, x6, 8
-    .word 0x00a37333  # and x6, x6, x10
-    .word 0x0064e4b3  # or x9, x9, x6
-    .word 0x00900293  # addi x5, x0, 9
-    .word 0x40828533  # sub x10, x5, x8
-    .word 0x00614303  # lbu x6, 6(x2)
-    .word 0x00834333  # xor x6, x6, x8
-    .word 0x00831313  # slli x6, x6, 8
-    .word 0x00a37333  # and x6, x6, x10
-    .word 0x0064e4b3  # or x9, x9, x6
-    .word 0x00800293  # addi x5, x0, 8
-    .word 0x40828533  # sub x10, x5, x8
-    .word 0x00714303  # lbu x6, 7(x2)
-    .word 0x00834333  # xor x6, x6, x8
-    .word 0x00831313  # slli x6, x6, 8
-    .word 0x00a37333  # and x6, x6, x10
-    .word 0x0064e4b3  # or x9, x9, x6
-    .word 0x00700293  # addi x5, x0, 7
-    .word 0x40828533  # sub x10, x5, x8
-    .word 0x00814303  # lbu x6, 8(x2)
-    .word 0x00834333  # xor x6, x6, x8
-    .word 0x00831313  # slli x6, x6, 8
-    .word 0x00a37333  # and x6, x6, x10
-    .word 0x0064e4b3  # or x9, x9, x6
-    .word 0x00600293  # addi x5, x0, 6
-    .word 0x40828533  # sub x10, x5, x8
-    .word 0x00914303  # lbu x6, 9(x2)
-    .word 0x00834333  # xor x6, x6, x8
-    .word 0x00831313  # slli x6, x6, 8
-    .word 0x00a37333  # and x6, x6, x10
-    .word 0x0064e4b3  # or x9, x9, x6
-    .word 0x00500293  # addi x5, x0, 5
-    .word 0x40828533  # sub x10, x5, x8
-    .word 0x00a14303  # lbu x6, 10(x2)
-    .word 0x00834333  # xor x6, x6, x8
-    .word 0x00831313  # slli x6, x6, 8
-    .word 0x00a37333  # and x6, x6, x10
-    .word 0x0064e4b3  # or x9, x9, x6
-    .word 0x00400293  # addi x5, x0, 4
-    .word 0x40828533  # sub x10, x5, x8
-    .word 0x00b14303  # lbu x6, 11(x2)
-    .word 0x00834333  # xor x6, x6, x8
-    .word 0x00831313  # slli x6, x6, 8
-    .word 0x00a37333  # and x6, x6, x10
-    .word 0x0064e4b3  # or x9, x9, x6
-    .word 0x00300293  # addi x5, x0, 3
-    .word 0x40828533  # sub x10, x5, x8
-    .word 0x00c14303  # lbu x6, 12(x2)
-    .word 0x00834333  # xor x6, x6, x8
-    .word 0x00831313  # slli x6, x6, 8
-    .word 0x00a37333  # and x6, x6, x10
-    .word 0x0064e4b3  # or x9, x9, x6
-    .word 0x00200293  # addi x5, x0, 2
-    .word 0x40828533  # sub x10, x5, x8
-    .word 0x00d14303  # lbu x6, 13(x2)
-    .word 0x00834333  # xor x6, x6, x8
-    .word 0x00831313  # slli x6, x6, 8
-    .word 0x00a37333  # and x6, x6, x10
-    .word 0x0064e4b3  # or x9, x9, x6
-    .word 0x00100293  # addi x5, x0, 1
-    .word 0x40828533  # sub x10, x5, x8
-    .word 0x00e14303  # lbu x6, 14(x2)
-    .word 0x00834333  # xor x6, x6, x8
-    .word 0x00831313  # slli x6, x6, 8
-    .word 0x00a37333  # and x6, x6, x10
-    .word 0x0064e4b3  # or x9, x9, x6
-    .word 0x00000293  # addi x5, x0, 0
-    .word 0x40828533  # sub x10, x5, x8
-    .word 0x00f14303  # lbu x6, 15(x2)
-    .word 0x00834333  # xor x6, x6, x8
-    .word 0x00831313  # slli x6, x6, 8
-    .word 0x00a37333  # and x6, x6, x10
-    .word 0x0064e4b3  # or x9, x9, x6
+    .word 0xfff50513  # addi x10, x10, -1
+    .word 0x00158593  # addi x11, x11, 1
+    .word 0x0045b293  # sltiu x5, x11, 4
+    .word 0xf80298e3  # bne x5, x0, -112
+    .word 0xfff58593  # addi x11, x11, -1
     .word 0x1004b293  # sltiu x5, x9, 256
     .word 0x01000313  # addi x6, x0, 16
     .word 0x40830333  # sub x6, x6, x8
@@ -193,15 +111,17 @@ pkcs7_unpad:
     .word 0x00012223  # sw x0, 4(x2)
     .word 0x00012423  # sw x0, 8(x2)
     .word 0x00012623  # sw x0, 12(x2)
+    .word 0x01010113  # addi x2, x2, 16
+    .word 0x00012023  # sw x0, 0(x2)
+    .word 0x00012223  # sw x0, 4(x2)
+    .word 0x00012423  # sw x0, 8(x2)
+    .word 0x00012623  # sw x0, 12(x2)
     .word 0x00012823  # sw x0, 16(x2)
     .word 0x00012a23  # sw x0, 20(x2)
     .word 0x00012c23  # sw x0, 24(x2)
     .word 0x00012e23  # sw x0, 28(x2)
-    .word 0x02012023  # sw x0, 32(x2)
-    .word 0x02012223  # sw x0, 36(x2)
-    .word 0x02012423  # sw x0, 40(x2)
-    .word 0x02012623  # sw x0, 44(x2)
-    .word 0x03010113  # addi x2, x2, 48
+    .word 0x02010113  # addi x2, x2, 32
+    .word 0xfc511ee3  # bne x2, x5, -36
     .cfi_def_cfa 2, 0
     # temporaries, wiped
     .word 0x00000293  # addi x5, x0, 0

@@ -1,4 +1,4 @@
-# shift_right_64: made by factc 1.0.0 function; 66 words, 32 bytes of stack, profile 1
+# shift_right_64: made by factc 1.0.0 function; 67 words, 32 bytes of stack, profile 1
     .option push
     .option norvc
     .option norelax
@@ -76,6 +76,7 @@ shift_right_64:
     .word 0x00012c23  # sw x0, 24(x2)
     .word 0x00012e23  # sw x0, 28(x2)
     .word 0x02010113  # addi x2, x2, 32
+    .word 0xfc511ee3  # bne x2, x5, -36
     .cfi_def_cfa 2, 0
     # temporaries, wiped
     .word 0x00000293  # addi x5, x0, 0

@@ -1,4 +1,4 @@
-# square_root_32: made by factc 1.0.0 function; 284 words, 32 bytes of stack, profile 1
+# square_root_32: made by factc 1.0.0 function; 85 words, 32 bytes of stack, profile 1
     .option push
     .option norvc
     .option norelax
@@ -21,260 +21,58 @@ square_root_32:
     # the frame's base
     .word 0xff010113  # addi x2, x2, -16
     .cfi_def_cfa 2, 32
-    # the frame's word at 8, zeroed
-    .word 0x00012423  # sw x0, 8(x2)
-    # the frame's word at 12, zeroed
-    .word 0x00012623  # sw x0, 12(x2)
     # parameter 0: a word
     .word 0x00a12023  # sw x10, 0(x2)
     # the body
     .word 0x00012403  # lw x8, 0(x2)
-    .word 0x00812603  # lw x12, 8(x2)
+    .word 0x00000613  # addi x12, x0, 0
+    .word 0x00000693  # addi x13, x0, 0
+    .word 0x00000713  # addi x14, x0, 0
     .word 0x00040493  # addi x9, x8, 0
     .word 0x00000513  # addi x10, x0, 0
-    .word 0x40000337  # lui x6, 0x40000
-    .word 0x00030313  # addi x6, x6, 0
-    .word 0x006432b3  # sltu x5, x8, x6
-    .word 0x0012b293  # sltiu x5, x5, 1
-    .word 0x40500633  # sub x12, x0, x5
-    .word 0x40000337  # lui x6, 0x40000
-    .word 0x00030313  # addi x6, x6, 0
-    .word 0x406402b3  # sub x5, x8, x6
-    .word 0x0092c2b3  # xor x5, x5, x9
-    .word 0x00c2f2b3  # and x5, x5, x12
-    .word 0x0054c4b3  # xor x9, x9, x5
-    .word 0x400002b7  # lui x5, 0x40000
-    .word 0x00028293  # addi x5, x5, 0
-    .word 0x00a2c2b3  # xor x5, x5, x10
-    .word 0x00c2f2b3  # and x5, x5, x12
-    .word 0x00554533  # xor x10, x10, x5
-    .word 0x10000337  # lui x6, 0x10000
-    .word 0x00030313  # addi x6, x6, 0
-    .word 0x006505b3  # add x11, x10, x6
-    .word 0x00155513  # srli x10, x10, 1
-    .word 0x00b4b2b3  # sltu x5, x9, x11
-    .word 0x0012b293  # sltiu x5, x5, 1
-    .word 0x40500633  # sub x12, x0, x5
-    .word 0x40b482b3  # sub x5, x9, x11
-    .word 0x0092c2b3  # xor x5, x5, x9
-    .word 0x00c2f2b3  # and x5, x5, x12
-    .word 0x0054c4b3  # xor x9, x9, x5
-    .word 0x10000337  # lui x6, 0x10000
-    .word 0x00030313  # addi x6, x6, 0
-    .word 0x006502b3  # add x5, x10, x6
-    .word 0x00a2c2b3  # xor x5, x5, x10
-    .word 0x00c2f2b3  # and x5, x5, x12
-    .word 0x00554533  # xor x10, x10, x5
-    .word 0x04000337  # lui x6, 0x04000
-    .word 0x00030313  # addi x6, x6, 0
-    .word 0x006505b3  # add x11, x10, x6
-    .word 0x00155513  # srli x10, x10, 1
-    .word 0x00b4b2b3  # sltu x5, x9, x11
-    .word 0x0012b293  # sltiu x5, x5, 1
-    .word 0x40500633  # sub x12, x0, x5
-    .word 0x40b482b3  # sub x5, x9, x11
-    .word 0x0092c2b3  # xor x5, x5, x9
-    .word 0x00c2f2b3  # and x5, x5, x12
-    .word 0x0054c4b3  # xor x9, x9, x5
-    .word 0x04000337  # lui x6, 0x04000
-    .word 0x00030313  # addi x6, x6, 0
-    .word 0x006502b3  # add x5, x10, x6
-    .word 0x00a2c2b3  # xor x5, x5, x10
-    .word 0x00c2f2b3  # and x5, x5, x12
-    .word 0x00554533  # xor x10, x10, x5
-    .word 0x01000337  # lui x6, 0x01000
-    .word 0x00030313  # addi x6, x6, 0
-    .word 0x006505b3  # add x11, x10, x6
-    .word 0x00155513  # srli x10, x10, 1
-    .word 0x00b4b2b3  # sltu x5, x9, x11
-    .word 0x0012b293  # sltiu x5, x5, 1
-    .word 0x40500633  # sub x12, x0, x5
-    .word 0x40b482b3  # sub x5, x9, x11
-    .word 0x0092c2b3  # xor x5, x5, x9
-    .word 0x00c2f2b3  # and x5, x5, x12
-    .word 0x0054c4b3  # xor x9, x9, x5
-    .word 0x01000337  # lui x6, 0x01000
-    .word 0x00030313  # addi x6, x6, 0
-    .word 0x006502b3  # add x5, x10, x6
-    .word 0x00a2c2b3  # xor x5, x5, x10
-    .word 0x00c2f2b3  # and x5, x5, x12
-    .word 0x00554533  # xor x10, x10, x5
-    .word 0x00400337  # lui x6, 0x00400
-    .word 0x00030313  # addi x6, x6, 0
-    .word 0x006505b3  # add x11, x10, x6
-    .word 0x00155513  # srli x10, x10, 1
-    .word 0x00b4b2b3  # sltu x5, x9, x11
-    .word 0x0012b293  # sltiu x5, x5, 1
-    .word 0x40500633  # sub x12, x0, x5
-    .word 0x40b482b3  # sub x5, x9, x11
-    .word 0x0092c2b3  # xor x5, x5, x9
-    .word 0x00c2f2b3  # and x5, x5, x12
-    .word 0x0054c4b3  # xor x9, x9, x5
-    .word 0x00400337  # lui x6, 0x00400
-    .word 0x00030313  # addi x6, x6, 0
-    .word 0x006502b3  # add x5, x10, x6
-    .word 0x00a2c2b3  # xor x5, x5, x10
-    .word 0x00c2f2b3  # and x5, x5, x12
-    .word 0x00554533  # xor x10, x10, x5
-    .word 0x00100337  # lui x6, 0x00100
-    .word 0x00030313  # addi x6, x6, 0
-    .word 0x006505b3  # add x11, x10, x6
-    .word 0x00155513  # srli x10, x10, 1
-    .word 0x00b4b2b3  # sltu x5, x9, x11
-    .word 0x0012b293  # sltiu x5, x5, 1
-    .word 0x40500633  # sub x12, x0, x5
-    .word 0x40b482b3  # sub x5, x9, x11
-    .word 0x0092c2b3  # xor x5, x5, x9
-    .word 0x00c2f2b3  # and x5, x5, x12
-    .word 0x0054c4b3  # xor x9, x9, x5
-    .word 0x00100337  # lui x6, 0x00100
-    .word 0x00030313  # addi x6, x6, 0
-    .word 0x006502b3  # add x5, x10, x6
-    .word 0x00a2c2b3  # xor x5, x5, x10
-    .word 0x00c2f2b3  # and x5, x5, x12
-    .word 0x00554533  # xor x10, x10, x5
-    .word 0x00040337  # lui x6, 0x00040
-    .word 0x00030313  # addi x6, x6, 0
-    .word 0x006505b3  # add x11, x10, x6
-    .word 0x00155513  # srli x10, x10, 1
-    .word 0x00b4b2b3  # sltu x5, x9, x11
-    .word 0x0012b293  # sltiu x5, x5, 1
-    .word 0x40500633  # sub x12, x0, x5
-    .word 0x40b482b3  # sub x5, x9, x11
-    .word 0x0092c2b3  # xor x5, x5, x9
-    .word 0x00c2f2b3  # and x5, x5, x12
-    .word 0x0054c4b3  # xor x9, x9, x5
-    .word 0x00040337  # lui x6, 0x00040
-    .word 0x00030313  # addi x6, x6, 0
-    .word 0x006502b3  # add x5, x10, x6
-    .word 0x00a2c2b3  # xor x5, x5, x10
-    .word 0x00c2f2b3  # and x5, x5, x12
-    .word 0x00554533  # xor x10, x10, x5
-    .word 0x00010337  # lui x6, 0x00010
-    .word 0x00030313  # addi x6, x6, 0
-    .word 0x006505b3  # add x11, x10, x6
-    .word 0x00155513  # srli x10, x10, 1
-    .word 0x00b4b2b3  # sltu x5, x9, x11
-    .word 0x0012b293  # sltiu x5, x5, 1
-    .word 0x40500633  # sub x12, x0, x5
-    .word 0x40b482b3  # sub x5, x9, x11
-    .word 0x0092c2b3  # xor x5, x5, x9
-    .word 0x00c2f2b3  # and x5, x5, x12
-    .word 0x0054c4b3  # xor x9, x9, x5
-    .word 0x00010337  # lui x6, 0x00010
-    .word 0x00030313  # addi x6, x6, 0
-    .word 0x006502b3  # add x5, x10, x6
-    .word 0x00a2c2b3  # xor x5, x5, x10
-    .word 0x00c2f2b3  # and x5, x5, x12
-    .word 0x00554533  # xor x10, x10, x5
-    .word 0x00004337  # lui x6, 0x00004
-    .word 0x00030313  # addi x6, x6, 0
-    .word 0x006505b3  # add x11, x10, x6
-    .word 0x00155513  # srli x10, x10, 1
-    .word 0x00b4b2b3  # sltu x5, x9, x11
-    .word 0x0012b293  # sltiu x5, x5, 1
-    .word 0x40500633  # sub x12, x0, x5
-    .word 0x40b482b3  # sub x5, x9, x11
-    .word 0x0092c2b3  # xor x5, x5, x9
-    .word 0x00c2f2b3  # and x5, x5, x12
-    .word 0x0054c4b3  # xor x9, x9, x5
-    .word 0x00004337  # lui x6, 0x00004
-    .word 0x00030313  # addi x6, x6, 0
-    .word 0x006502b3  # add x5, x10, x6
-    .word 0x00a2c2b3  # xor x5, x5, x10
-    .word 0x00c2f2b3  # and x5, x5, x12
-    .word 0x00554533  # xor x10, x10, x5
-    .word 0x00001337  # lui x6, 0x00001
-    .word 0x00030313  # addi x6, x6, 0
-    .word 0x006505b3  # add x11, x10, x6
-    .word 0x00155513  # srli x10, x10, 1
-    .word 0x00b4b2b3  # sltu x5, x9, x11
-    .word 0x0012b293  # sltiu x5, x5, 1
-    .word 0x40500633  # sub x12, x0, x5
-    .word 0x40b482b3  # sub x5, x9, x11
-    .word 0x0092c2b3  # xor x5, x5, x9
-    .word 0x00c2f2b3  # and x5, x5, x12
-    .word 0x0054c4b3  # xor x9, x9, x5
-    .word 0x00001337  # lui x6, 0x00001
-    .word 0x00030313  # addi x6, x6, 0
-    .word 0x006502b3  # add x5, x10, x6
-    .word 0x00a2c2b3  # xor x5, x5, x10
-    .word 0x00c2f2b3  # and x5, x5, x12
-    .word 0x00554533  # xor x10, x10, x5
-    .word 0x40050593  # addi x11, x10, 1024
-    .word 0x00155513  # srli x10, x10, 1
-    .word 0x00b4b2b3  # sltu x5, x9, x11
-    .word 0x0012b293  # sltiu x5, x5, 1
-    .word 0x40500633  # sub x12, x0, x5
-    .word 0x40b482b3  # sub x5, x9, x11
-    .word 0x0092c2b3  # xor x5, x5, x9
-    .word 0x00c2f2b3  # and x5, x5, x12
-    .word 0x0054c4b3  # xor x9, x9, x5
-    .word 0x40050293  # addi x5, x10, 1024
-    .word 0x00a2c2b3  # xor x5, x5, x10
-    .word 0x00c2f2b3  # and x5, x5, x12
-    .word 0x00554533  # xor x10, x10, x5
-    .word 0x10050593  # addi x11, x10, 256
-    .word 0x00155513  # srli x10, x10, 1
-    .word 0x00b4b2b3  # sltu x5, x9, x11
-    .word 0x0012b293  # sltiu x5, x5, 1
-    .word 0x40500633  # sub x12, x0, x5
-    .word 0x40b482b3  # sub x5, x9, x11
-    .word 0x0092c2b3  # xor x5, x5, x9
-    .word 0x00c2f2b3  # and x5, x5, x12
-    .word 0x0054c4b3  # xor x9, x9, x5
-    .word 0x10050293  # addi x5, x10, 256
-    .word 0x00a2c2b3  # xor x5, x5, x10
-    .word 0x00c2f2b3  # and x5, x5, x12
-    .word 0x00554533  # xor x10, x10, x5
-    .word 0x04050593  # addi x11, x10, 64
-    .word 0x00155513  # srli x10, x10, 1
-    .word 0x00b4b2b3  # sltu x5, x9, x11
-    .word 0x0012b293  # sltiu x5, x5, 1
-    .word 0x40500633  # sub x12, x0, x5
-    .word 0x40b482b3  # sub x5, x9, x11
-    .word 0x0092c2b3  # xor x5, x5, x9
-    .word 0x00c2f2b3  # and x5, x5, x12
-    .word 0x0054c4b3  # xor x9, x9, x5
-    .word 0x04050293  # addi x5, x10, 64
-    .word 0x00a2c2b3  # xor x5, x5, x10
-    .word 0x00c2f2b3  # and x5, x5, x12
-    .word 0x00554533  # xor x10, x10, x5
-    .word 0x01050593  # addi x11, x10, 16
-    .word 0x00155513  # srli x10, x10, 1
-    .word 0x00b4b2b3  # sltu x5, x9, x11
-    .word 0x0012b293  # sltiu x5, x5, 1
-    .word 0x40500633  # sub x12, x0, x5
-    .word 0x40b482b3  # sub x5, x9, x11
-    .word 0x0092c2b3  # xor x5, x5, x9
-    .word 0x00c2f2b3  # and x5, x5, x12
-    .word 0x0054c4b3  # xor x9, x9, x5
-    .word 0x01050293  # addi x5, x10, 16
-    .word 0x00a2c2b3  # xor x5, x5, x10
-    .word 0x00c2f2b3  # and x5, x5, x12
-    .word 0x00554533  # xor x10, x10, x5
-    .word 0x00450593  # addi x11, x10, 4
-    .word 0x00155513  # srli x10, x10, 1
-    .word 0x00b4b2b3  # sltu x5, x9, x11
-    .word 0x0012b293  # sltiu x5, x5, 1
-    .word 0x40500633  # sub x12, x0, x5
-    .word 0x40b482b3  # sub x5, x9, x11
-    .word 0x0092c2b3  # xor x5, x5, x9
-    .word 0x00c2f2b3  # and x5, x5, x12
-    .word 0x0054c4b3  # xor x9, x9, x5
-    .word 0x00450293  # addi x5, x10, 4
-    .word 0x00a2c2b3  # xor x5, x5, x10
-    .word 0x00c2f2b3  # and x5, x5, x12
-    .word 0x00554533  # xor x10, x10, x5
-    .word 0x00150593  # addi x11, x10, 1
-    .word 0x00155513  # srli x10, x10, 1
-    .word 0x00b4b2b3  # sltu x5, x9, x11
-    .word 0x0012b293  # sltiu x5, x5, 1
-    .word 0x40500633  # sub x12, x0, x5
-    .word 0x00150293  # addi x5, x10, 1
-    .word 0x00a2c2b3  # xor x5, x5, x10
-    .word 0x00c2f2b3  # and x5, x5, x12
-    .word 0x00554533  # xor x10, x10, x5
+    .word 0x400005b7  # lui x11, 0x40000
+    .word 0x00058593  # addi x11, x11, 0
+    .word 0x00000613  # addi x12, x0, 0
+    .word 0x00b506b3  # add x13, x10, x11
+    .word 0x00d4b2b3  # sltu x5, x9, x13
+    .word 0xfff28713  # addi x14, x5, -1
+    .word 0x00e6f333  # and x6, x13, x14
+    .word 0x406484b3  # sub x9, x9, x6
+    .word 0x00155293  # srli x5, x10, 1
+    .word 0x00e5f333  # and x6, x11, x14
+    .word 0x00628533  # add x10, x5, x6
+    .word 0x0025d593  # srli x11, x11, 2
+    .word 0x00b506b3  # add x13, x10, x11
+    .word 0x00d4b2b3  # sltu x5, x9, x13
+    .word 0xfff28713  # addi x14, x5, -1
+    .word 0x00e6f333  # and x6, x13, x14
+    .word 0x406484b3  # sub x9, x9, x6
+    .word 0x00155293  # srli x5, x10, 1
+    .word 0x00e5f333  # and x6, x11, x14
+    .word 0x00628533  # add x10, x5, x6
+    .word 0x0025d593  # srli x11, x11, 2
+    .word 0x00b506b3  # add x13, x10, x11
+    .word 0x00d4b2b3  # sltu x5, x9, x13
+    .word 0xfff28713  # addi x14, x5, -1
+    .word 0x00e6f333  # and x6, x13, x14
+    .word 0x406484b3  # sub x9, x9, x6
+    .word 0x00155293  # srli x5, x10, 1
+    .word 0x00e5f333  # and x6, x11, x14
+    .word 0x00628533  # add x10, x5, x6
+    .word 0x0025d593  # srli x11, x11, 2
+    .word 0x00b506b3  # add x13, x10, x11
+    .word 0x00d4b2b3  # sltu x5, x9, x13
+    .word 0xfff28713  # addi x14, x5, -1
+    .word 0x00e6f333  # and x6, x13, x14
+    .word 0x406484b3  # sub x9, x9, x6
+    .word 0x00155293  # srli x5, x10, 1
+    .word 0x00e5f333  # and x6, x11, x14
+    .word 0x00628533  # add x10, x5, x6
+    .word 0x0025d593  # srli x11, x11, 2
+    .word 0x00160613  # addi x12, x12, 1
+    .word 0x00463293  # sltiu x5, x12, 4
+    .word 0xf60294e3  # bne x5, x0, -152
+    .word 0xfff60613  # addi x12, x12, -1
     .word 0x00a12223  # sw x10, 4(x2)
     # the result
     .word 0x00412503  # lw x10, 4(x2)
@@ -298,6 +96,7 @@ square_root_32:
     .word 0x00012c23  # sw x0, 24(x2)
     .word 0x00012e23  # sw x0, 28(x2)
     .word 0x02010113  # addi x2, x2, 32
+    .word 0xfc511ee3  # bne x2, x5, -36
     .cfi_def_cfa 2, 0
     # temporaries, wiped
     .word 0x00000293  # addi x5, x0, 0

@@ -1,4 +1,4 @@
-# tls_padding: made by factc 1.0.0 function; 129 words, 304 bytes of stack, profile 1
+# tls_padding: made by factc 1.0.0 function; 120 words, 304 bytes of stack, profile 1
     .option push
     .option norvc
     .option norelax
@@ -23,21 +23,15 @@ tls_padding:
     .word 0x00050293  # addi x5, x10, 0
     .word 0x00010313  # addi x6, x2, 0
     .word 0x0032fe13  # andi x28, x5, 3
-    .word 0x020e0e63  # beq x28, x0, 60
+    .word 0x020e0263  # beq x28, x0, 36
     .word 0x10000393  # addi x7, x0, 256
     .word 0x005383b3  # add x7, x7, x5
     .word 0x0002ce03  # lbu x28, 0(x5)
     .word 0x01c30023  # sb x28, 0(x6)
-    .word 0x0012ce03  # lbu x28, 1(x5)
-    .word 0x01c300a3  # sb x28, 1(x6)
-    .word 0x0022ce03  # lbu x28, 2(x5)
-    .word 0x01c30123  # sb x28, 2(x6)
-    .word 0x0032ce03  # lbu x28, 3(x5)
-    .word 0x01c301a3  # sb x28, 3(x6)
-    .word 0x00428293  # addi x5, x5, 4
-    .word 0x00430313  # addi x6, x6, 4
-    .word 0xfc729ce3  # bne x5, x7, -40
-    .word 0x0580006f  # jal x0, 88
+    .word 0x00128293  # addi x5, x5, 1
+    .word 0x00130313  # addi x6, x6, 1
+    .word 0xfe7298e3  # bne x5, x7, -16
+    .word 0x0380006f  # jal x0, 56
     .word 0x10000393  # addi x7, x0, 256
     .word 0x005383b3  # add x7, x7, x5
     .word 0x0002ae03  # lw x28, 0(x5)
@@ -48,17 +42,9 @@ tls_padding:
     .word 0x01c32423  # sw x28, 8(x6)
     .word 0x00c2ae03  # lw x28, 12(x5)
     .word 0x01c32623  # sw x28, 12(x6)
-    .word 0x0102ae03  # lw x28, 16(x5)
-    .word 0x01c32823  # sw x28, 16(x6)
-    .word 0x0142ae03  # lw x28, 20(x5)
-    .word 0x01c32a23  # sw x28, 20(x6)
-    .word 0x0182ae03  # lw x28, 24(x5)
-    .word 0x01c32c23  # sw x28, 24(x6)
-    .word 0x01c2ae03  # lw x28, 28(x5)
-    .word 0x01c32e23  # sw x28, 28(x6)
-    .word 0x02028293  # addi x5, x5, 32
-    .word 0x02030313  # addi x6, x6, 32
-    .word 0xfa729ce3  # bne x5, x7, -72
+    .word 0x01028293  # addi x5, x5, 16
+    .word 0x01030313  # addi x6, x6, 16
+    .word 0xfc729ce3  # bne x5, x7, -40
     # parameter 1: a word
     .word 0x10b12023  # sw x11, 256(x2)
     # parameter 2: a word
@@ -66,34 +52,55 @@ tls_padding:
     # the body
     .word 0x10012483  # lw x9, 256(x2)
     .word 0x10412503  # lw x10, 260(x2)
-    .word 0x00000713  # addi x14, x0, 0
+    .word 0x00000793  # addi x15, x0, 0
+    .word 0x00000813  # addi x16, x0, 0
+    .word 0x002808b3  # add x17, x16, x2
     .word 0x0ff14583  # lbu x11, 255(x2)
     .word 0x00158613  # addi x12, x11, 1
     .word 0x00000693  # addi x13, x0, 0
-    .word 0x00000713  # addi x14, x0, 0
-    .word 0x0ff00313  # addi x6, x0, 255
-    .word 0x40e30333  # sub x6, x6, x14
-    .word 0x00230333  # add x6, x6, x2
-    .word 0x00034303  # lbu x6, 0(x6)
+    .word 0x0ff00293  # addi x5, x0, 255
+    .word 0x40c28733  # sub x14, x5, x12
+    .word 0x00000793  # addi x15, x0, 0
+    .word 0x00279813  # slli x16, x15, 2
+    .word 0x002808b3  # add x17, x16, x2
+    .word 0x0008c303  # lbu x6, 0(x17)
     .word 0x00b34333  # xor x6, x6, x11
-    .word 0x00c733b3  # sltu x7, x14, x12
-    .word 0x407003b3  # sub x7, x0, x7
-    .word 0x0ff3f393  # andi x7, x7, 255
+    .word 0x00875393  # srli x7, x14, 8
     .word 0x00737333  # and x6, x6, x7
     .word 0x0066e6b3  # or x13, x13, x6
-    .word 0x00170713  # addi x14, x14, 1
-    .word 0x10073293  # sltiu x5, x14, 256
-    .word 0xfc0298e3  # bne x5, x0, -48
     .word 0xfff70713  # addi x14, x14, -1
+    .word 0x0018c303  # lbu x6, 1(x17)
+    .word 0x00b34333  # xor x6, x6, x11
+    .word 0x00875393  # srli x7, x14, 8
+    .word 0x00737333  # and x6, x6, x7
+    .word 0x0066e6b3  # or x13, x13, x6
+    .word 0xfff70713  # addi x14, x14, -1
+    .word 0x0028c303  # lbu x6, 2(x17)
+    .word 0x00b34333  # xor x6, x6, x11
+    .word 0x00875393  # srli x7, x14, 8
+    .word 0x00737333  # and x6, x6, x7
+    .word 0x0066e6b3  # or x13, x13, x6
+    .word 0xfff70713  # addi x14, x14, -1
+    .word 0x0038c303  # lbu x6, 3(x17)
+    .word 0x00b34333  # xor x6, x6, x11
+    .word 0x00875393  # srli x7, x14, 8
+    .word 0x00737333  # and x6, x6, x7
+    .word 0x0066e6b3  # or x13, x13, x6
+    .word 0xfff70713  # addi x14, x14, -1
+    .word 0x00178793  # addi x15, x15, 1
+    .word 0x0407b293  # sltiu x5, x15, 64
+    .word 0xf80298e3  # bne x5, x0, -112
+    .word 0xfff78793  # addi x15, x15, -1
     .word 0x00a4b2b3  # sltu x5, x9, x10
     .word 0x00000313  # addi x6, x0, 0
     .word 0x40a483b3  # sub x7, x9, x10
     .word 0x405002b3  # sub x5, x0, x5
     .word 0x00734333  # xor x6, x6, x7
     .word 0x00537333  # and x6, x6, x5
-    .word 0x0063c4b3  # xor x9, x7, x6
+    .word 0x0063c833  # xor x16, x7, x6
+    .word 0x002808b3  # add x17, x16, x2
     .word 0x0016b293  # sltiu x5, x13, 1
-    .word 0x00c4b333  # sltu x6, x9, x12
+    .word 0x00c83333  # sltu x6, x16, x12
     .word 0x00133313  # sltiu x6, x6, 1
     .word 0x0062f2b3  # and x5, x5, x6
     .word 0x405002b3  # sub x5, x0, x5
@@ -114,15 +121,7 @@ tls_padding:
     .word 0x00012223  # sw x0, 4(x2)
     .word 0x00012423  # sw x0, 8(x2)
     .word 0x00012623  # sw x0, 12(x2)
-    .word 0x00012823  # sw x0, 16(x2)
-    .word 0x00012a23  # sw x0, 20(x2)
-    .word 0x00012c23  # sw x0, 24(x2)
-    .word 0x00012e23  # sw x0, 28(x2)
-    .word 0x02012023  # sw x0, 32(x2)
-    .word 0x02012223  # sw x0, 36(x2)
-    .word 0x02012423  # sw x0, 40(x2)
-    .word 0x02012623  # sw x0, 44(x2)
-    .word 0x03010113  # addi x2, x2, 48
+    .word 0x01010113  # addi x2, x2, 16
     .word 0x00012023  # sw x0, 0(x2)
     .word 0x00012223  # sw x0, 4(x2)
     .word 0x00012423  # sw x0, 8(x2)
@@ -131,16 +130,8 @@ tls_padding:
     .word 0x00012a23  # sw x0, 20(x2)
     .word 0x00012c23  # sw x0, 24(x2)
     .word 0x00012e23  # sw x0, 28(x2)
-    .word 0x02012023  # sw x0, 32(x2)
-    .word 0x02012223  # sw x0, 36(x2)
-    .word 0x02012423  # sw x0, 40(x2)
-    .word 0x02012623  # sw x0, 44(x2)
-    .word 0x02012823  # sw x0, 48(x2)
-    .word 0x02012a23  # sw x0, 52(x2)
-    .word 0x02012c23  # sw x0, 56(x2)
-    .word 0x02012e23  # sw x0, 60(x2)
-    .word 0x04010113  # addi x2, x2, 64
-    .word 0xfa511ee3  # bne x2, x5, -68
+    .word 0x02010113  # addi x2, x2, 32
+    .word 0xfc511ee3  # bne x2, x5, -36
     .cfi_def_cfa 2, 0
     # temporaries, wiped
     .word 0x00000293  # addi x5, x0, 0

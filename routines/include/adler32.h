@@ -6,7 +6,7 @@
 #define FACT_adler32_H
 #include <stdbool.h>
 #include <stdint.h>
-#define adler32_STACK_BYTES 96
+#define adler32_STACK_BYTES 112
 #ifdef __cplusplus
 extern "C" {
 #endif

@@ -6,7 +6,7 @@
 #define FACT_aes256_ctr_H
 #include <stdbool.h>
 #include <stdint.h>
-#define aes256_ctr_STACK_BYTES 944
+#define aes256_ctr_STACK_BYTES 992
 #ifdef __cplusplus
 extern "C" {
 #endif

@@ -6,7 +6,7 @@
 #define FACT_ascon_hash256_short_H
 #include <stdbool.h>
 #include <stdint.h>
-#define ascon_hash256_short_STACK_BYTES 240
+#define ascon_hash256_short_STACK_BYTES 384
 #ifdef __cplusplus
 extern "C" {
 #endif

@@ -6,7 +6,7 @@
 #define FACT_f25519_add_H
 #include <stdbool.h>
 #include <stdint.h>
-#define f25519_add_STACK_BYTES 176
+#define f25519_add_STACK_BYTES 160
 #ifdef __cplusplus
 extern "C" {
 #endif

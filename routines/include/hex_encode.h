@@ -6,7 +6,7 @@
 #define FACT_hex_encode_H
 #include <stdbool.h>
 #include <stdint.h>
-#define hex_encode_STACK_BYTES 128
+#define hex_encode_STACK_BYTES 144
 #ifdef __cplusplus
 extern "C" {
 #endif

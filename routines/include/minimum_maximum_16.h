@@ -6,7 +6,7 @@
 #define FACT_minimum_maximum_16_H
 #include <stdbool.h>
 #include <stdint.h>
-#define minimum_maximum_16_STACK_BYTES 96
+#define minimum_maximum_16_STACK_BYTES 112
 #ifdef __cplusplus
 extern "C" {
 #endif

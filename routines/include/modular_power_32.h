@@ -6,7 +6,7 @@
 #define FACT_modular_power_32_H
 #include <stdbool.h>
 #include <stdint.h>
-#define modular_power_32_STACK_BYTES 48
+#define modular_power_32_STACK_BYTES 64
 #ifdef __cplusplus
 extern "C" {
 #endif

@@ -6,7 +6,7 @@
 #define FACT_p256_add_H
 #include <stdbool.h>
 #include <stdint.h>
-#define p256_add_STACK_BYTES 176
+#define p256_add_STACK_BYTES 144
 #ifdef __cplusplus
 extern "C" {
 #endif

@@ -6,7 +6,7 @@
 #define FACT_p256_sign_H
 #include <stdbool.h>
 #include <stdint.h>
-#define p256_sign_STACK_BYTES 2288
+#define p256_sign_STACK_BYTES 800
 #ifdef __cplusplus
 extern "C" {
 #endif

@@ -6,7 +6,7 @@
 #define FACT_p256_to_bytes_H
 #include <stdbool.h>
 #include <stdint.h>
-#define p256_to_bytes_STACK_BYTES 176
+#define p256_to_bytes_STACK_BYTES 112
 #ifdef __cplusplus
 extern "C" {
 #endif

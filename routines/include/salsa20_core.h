@@ -6,7 +6,7 @@
 #define FACT_salsa20_core_H
 #include <stdbool.h>
 #include <stdint.h>
-#define salsa20_core_STACK_BYTES 192
+#define salsa20_core_STACK_BYTES 208
 #ifdef __cplusplus
 extern "C" {
 #endif

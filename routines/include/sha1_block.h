@@ -6,7 +6,7 @@
 #define FACT_sha1_block_H
 #include <stdbool.h>
 #include <stdint.h>
-#define sha1_block_STACK_BYTES 432
+#define sha1_block_STACK_BYTES 208
 #ifdef __cplusplus
 extern "C" {
 #endif

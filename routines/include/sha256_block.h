@@ -6,7 +6,7 @@
 #define FACT_sha256_block_H
 #include <stdbool.h>
 #include <stdint.h>
-#define sha256_block_STACK_BYTES 192
+#define sha256_block_STACK_BYTES 480
 #ifdef __cplusplus
 extern "C" {
 #endif

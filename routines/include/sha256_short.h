@@ -6,7 +6,7 @@
 #define FACT_sha256_short_H
 #include <stdbool.h>
 #include <stdint.h>
-#define sha256_short_STACK_BYTES 592
+#define sha256_short_STACK_BYTES 720
 #ifdef __cplusplus
 extern "C" {
 #endif

@@ -6,7 +6,7 @@
 #define FACT_sha3_256_short_H
 #include <stdbool.h>
 #include <stdint.h>
-#define sha3_256_short_STACK_BYTES 736
+#define sha3_256_short_STACK_BYTES 784
 #ifdef __cplusplus
 extern "C" {
 #endif

@@ -6,7 +6,7 @@
 #define FACT_speck64_decrypt_H
 #include <stdbool.h>
 #include <stdint.h>
-#define speck64_decrypt_STACK_BYTES 144
+#define speck64_decrypt_STACK_BYTES 64
 #ifdef __cplusplus
 extern "C" {
 #endif

@@ -6,7 +6,7 @@
 #define FACT_speck64_encrypt_H
 #include <stdbool.h>
 #include <stdint.h>
-#define speck64_encrypt_STACK_BYTES 48
+#define speck64_encrypt_STACK_BYTES 64
 #ifdef __cplusplus
 extern "C" {
 #endif

@@ -1,4 +1,4 @@
-# adler32: made by factc 1.0.0 function; 79 words, 112 bytes of stack, profile 1
+# adler32: made by factc 1.0.0 function; 129 words, 112 bytes of stack, profile 1
     .option push
     .option norvc
     .option norelax
@@ -15,6 +15,10 @@ adler32:
     # the caller's registers
     .word 0x00912023  # sw x9, 0(x2)
     .cfi_offset 9, -16
+    .word 0x01212223  # sw x18, 4(x2)
+    .cfi_offset 18, -12
+    .word 0x01312423  # sw x19, 8(x2)
+    .cfi_offset 19, -8
     # arguments that are needed behind the body
     # the frame's base
     .word 0xfa010113  # addi x2, x2, -96
@@ -35,41 +39,87 @@ adler32:
     # the body
     .word 0x00012483  # lw x9, 0(x2)
     .word 0x04412503  # lw x10, 68(x2)
-    .word 0x00000693  # addi x13, x0, 0
-    .word 0x000107b7  # lui x15, 0x00010
-    .word 0xff178793  # addi x15, x15, -15
+    .word 0x00000713  # addi x14, x0, 0
+    .word 0x00000793  # addi x15, x0, 0
+    .word 0x00000813  # addi x16, x0, 0
+    .word 0x00000893  # addi x17, x0, 0
+    .word 0x000109b7  # lui x19, 0x00010
+    .word 0xff198993  # addi x19, x19, -15
     .word 0x01049593  # slli x11, x9, 16
     .word 0x0105d593  # srli x11, x11, 16
     .word 0x0104d613  # srli x12, x9, 16
-    .word 0x00000693  # addi x13, x0, 0
-    .word 0x00a6fa63  # bgeu x13, x10, 20
-    .word 0x00268333  # add x6, x13, x2
+    .word 0x04053293  # sltiu x5, x10, 64
+    .word 0x03f57313  # andi x6, x10, 63
+    .word 0x04000393  # addi x7, x0, 64
+    .word 0x405002b3  # sub x5, x0, x5
+    .word 0x00734333  # xor x6, x6, x7
+    .word 0x00537333  # and x6, x6, x5
+    .word 0x0063c6b3  # xor x13, x7, x6
+    .word 0x04012623  # sw x0, 76(x2)
+    .word 0x0036d293  # srli x5, x13, 3
+    .word 0x04512823  # sw x5, 80(x2)
+    .word 0x04c12303  # lw x6, 76(x2)
+    .word 0x05012283  # lw x5, 80(x2)
+    .word 0x005332b3  # sltu x5, x6, x5
+    .word 0x00029463  # bne x5, x0, 8
+    .word 0x04c0006f  # jal x0, 76
+    .word 0x00030713  # addi x14, x6, 0
+    .word 0x00371793  # slli x15, x14, 3
+    .word 0x00000813  # addi x16, x0, 0
+    .word 0x01078333  # add x6, x15, x16
+    .word 0x00230333  # add x6, x6, x2
     .word 0x00434303  # lbu x6, 4(x6)
     .word 0x006585b3  # add x11, x11, x6
     .word 0x00b60633  # add x12, x12, x11
-    .word 0x00168693  # addi x13, x13, 1
-    .word 0x0406b293  # sltiu x5, x13, 64
+    .word 0x00180813  # addi x16, x16, 1
+    .word 0x00883293  # sltiu x5, x16, 8
     .word 0xfe0292e3  # bne x5, x0, -28
-    .word 0xfff68693  # addi x13, x13, -1
-    .word 0x0105d713  # srli x14, x11, 16
+    .word 0xfff80813  # addi x16, x16, -1
+    .word 0x00170713  # addi x14, x14, 1
+    .word 0x05012283  # lw x5, 80(x2)
+    .word 0x005732b3  # sltu x5, x14, x5
+    .word 0xfc0294e3  # bne x5, x0, -56
+    .word 0xfff70713  # addi x14, x14, -1
+    .word 0x0040006f  # jal x0, 4
+    .word 0x0036d293  # srli x5, x13, 3
+    .word 0x00329293  # slli x5, x5, 3
+    .word 0x04512623  # sw x5, 76(x2)
+    .word 0x04d12823  # sw x13, 80(x2)
+    .word 0x04c12303  # lw x6, 76(x2)
+    .word 0x05012283  # lw x5, 80(x2)
+    .word 0x005332b3  # sltu x5, x6, x5
+    .word 0x00029463  # bne x5, x0, 8
+    .word 0x0300006f  # jal x0, 48
+    .word 0x00030893  # addi x17, x6, 0
+    .word 0x00288333  # add x6, x17, x2
+    .word 0x00434303  # lbu x6, 4(x6)
+    .word 0x006585b3  # add x11, x11, x6
+    .word 0x00b60633  # add x12, x12, x11
+    .word 0x00188893  # addi x17, x17, 1
+    .word 0x05012283  # lw x5, 80(x2)
+    .word 0x0058b2b3  # sltu x5, x17, x5
+    .word 0xfe0292e3  # bne x5, x0, -28
+    .word 0xfff88893  # addi x17, x17, -1
+    .word 0x0040006f  # jal x0, 4
+    .word 0x0105d913  # srli x18, x11, 16
     .word 0x01059293  # slli x5, x11, 16
     .word 0x0102d293  # srli x5, x5, 16
-    .word 0x00471313  # slli x6, x14, 4
+    .word 0x00491313  # slli x6, x18, 4
     .word 0x006282b3  # add x5, x5, x6
-    .word 0x40e285b3  # sub x11, x5, x14
-    .word 0x00f5b333  # sltu x6, x11, x15
+    .word 0x412285b3  # sub x11, x5, x18
+    .word 0x0135b333  # sltu x6, x11, x19
     .word 0xfff30313  # addi x6, x6, -1
-    .word 0x0067f333  # and x6, x15, x6
+    .word 0x0069f333  # and x6, x19, x6
     .word 0x406585b3  # sub x11, x11, x6
-    .word 0x01065713  # srli x14, x12, 16
+    .word 0x01065913  # srli x18, x12, 16
     .word 0x01061293  # slli x5, x12, 16
     .word 0x0102d293  # srli x5, x5, 16
-    .word 0x00471313  # slli x6, x14, 4
+    .word 0x00491313  # slli x6, x18, 4
     .word 0x006282b3  # add x5, x5, x6
-    .word 0x40e28633  # sub x12, x5, x14
-    .word 0x00f63333  # sltu x6, x12, x15
+    .word 0x41228633  # sub x12, x5, x18
+    .word 0x01363333  # sltu x6, x12, x19
     .word 0xfff30313  # addi x6, x6, -1
-    .word 0x0067f333  # and x6, x15, x6
+    .word 0x0069f333  # and x6, x19, x6
     .word 0x40660633  # sub x12, x12, x6
     .word 0x01061293  # slli x5, x12, 16
     .word 0x00b2e2b3  # or x5, x5, x11
@@ -81,6 +131,10 @@ adler32:
     # the caller's registers
     .word 0x0002a483  # lw x9, 0(x5)
     .cfi_restore 9
+    .word 0x0042a903  # lw x18, 4(x5)
+    .cfi_restore 18
+    .word 0x0082a983  # lw x19, 8(x5)
+    .cfi_restore 19
     # the caller's x2
     .word 0x01028293  # addi x5, x5, 16
     .cfi_def_cfa 5, 0

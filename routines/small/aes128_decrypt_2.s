@@ -1,4 +1,4 @@
-# aes128_decrypt_2: made by factc 1.0.0 function; 1013 words, 736 bytes of stack, profile 1
+# aes128_decrypt_2: made by factc 1.0.0 function; 1001 words, 736 bytes of stack, profile 1
     .option push
     .option norvc
     .option norelax
@@ -283,7 +283,7 @@ aes128_decrypt_2:
     .word 0x29412283  # lw x5, 660(x2)
     .word 0x005332b3  # sltu x5, x6, x5
     .word 0x00029463  # bne x5, x0, 8
-    .word 0x1210006f  # jal x0, 2336
+    .word 0x0f10006f  # jal x0, 2288
     .word 0x1a612a23  # sw x6, 436(x2)
     .word 0x00130313  # addi x6, x6, 1
     .word 0x28612823  # sw x6, 656(x2)
@@ -313,20 +313,16 @@ aes128_decrypt_2:
     .word 0xfa0294e3  # bne x5, x0, -88
     .word 0xfff48493  # addi x9, x9, -1
     .word 0x18012283  # lw x5, 384(x2)
-    .word 0x40500533  # sub x10, x0, x5
-    .word 0xfff50513  # addi x10, x10, -1
+    .word 0xfff2c513  # xori x10, x5, -1
     .word 0x18412283  # lw x5, 388(x2)
-    .word 0x405005b3  # sub x11, x0, x5
-    .word 0xfff58593  # addi x11, x11, -1
+    .word 0xfff2c593  # xori x11, x5, -1
     .word 0x18812683  # lw x13, 392(x2)
     .word 0x18c12783  # lw x15, 396(x2)
     .word 0x19012883  # lw x17, 400(x2)
     .word 0x19412283  # lw x5, 404(x2)
-    .word 0x40500633  # sub x12, x0, x5
-    .word 0xfff60613  # addi x12, x12, -1
+    .word 0xfff2c613  # xori x12, x5, -1
     .word 0x19812283  # lw x5, 408(x2)
-    .word 0x405002b3  # sub x5, x0, x5
-    .word 0xfff28293  # addi x5, x5, -1
+    .word 0xfff2c293  # xori x5, x5, -1
     .word 0x1c512023  # sw x5, 448(x2)
     .word 0x19c12703  # lw x14, 412(x2)
     .word 0x0115c2b3  # xor x5, x11, x17
@@ -610,13 +606,11 @@ aes128_decrypt_2:
     .word 0x00f2c733  # xor x14, x5, x15
     .word 0x00f8c7b3  # xor x15, x17, x15
     .word 0x1f812283  # lw x5, 504(x2)
-    .word 0x40a00333  # sub x6, x0, x10
-    .word 0xfff30313  # addi x6, x6, -1
-    .word 0x0062c8b3  # xor x17, x5, x6
+    .word 0x00a2c2b3  # xor x5, x5, x10
+    .word 0xfff2c893  # xori x17, x5, -1
     .word 0x1c012283  # lw x5, 448(x2)
-    .word 0x41200333  # sub x6, x0, x18
-    .word 0xfff30313  # addi x6, x6, -1
-    .word 0x0062c2b3  # xor x5, x5, x6
+    .word 0x0122c2b3  # xor x5, x5, x18
+    .word 0xfff2c293  # xori x5, x5, -1
     .word 0x1c512023  # sw x5, 448(x2)
     .word 0x00c6c2b3  # xor x5, x13, x12
     .word 0x1c512e23  # sw x5, 476(x2)
@@ -624,14 +618,12 @@ aes128_decrypt_2:
     .word 0x1e812283  # lw x5, 488(x2)
     .word 0x00e2c5b3  # xor x11, x5, x14
     .word 0x00c84633  # xor x12, x16, x12
-    .word 0x40a00333  # sub x6, x0, x10
-    .word 0xfff30313  # addi x6, x6, -1
-    .word 0x0066c6b3  # xor x13, x13, x6
+    .word 0x00a6c2b3  # xor x5, x13, x10
+    .word 0xfff2c693  # xori x13, x5, -1
     .word 0x1b812283  # lw x5, 440(x2)
     .word 0x1dc12303  # lw x6, 476(x2)
-    .word 0x40600333  # sub x6, x0, x6
-    .word 0xfff30313  # addi x6, x6, -1
-    .word 0x0062c733  # xor x14, x5, x6
+    .word 0x0062c2b3  # xor x5, x5, x6
+    .word 0xfff2c713  # xori x14, x5, -1
     .word 0x18f12e23  # sw x15, 412(x2)
     .word 0x18d12c23  # sw x13, 408(x2)
     .word 0x18e12a23  # sw x14, 404(x2)
@@ -642,20 +634,16 @@ aes128_decrypt_2:
     .word 0x1c012283  # lw x5, 448(x2)
     .word 0x18512023  # sw x5, 384(x2)
     .word 0x18012283  # lw x5, 384(x2)
-    .word 0x40500533  # sub x10, x0, x5
-    .word 0xfff50513  # addi x10, x10, -1
+    .word 0xfff2c513  # xori x10, x5, -1
     .word 0x18412283  # lw x5, 388(x2)
-    .word 0x405005b3  # sub x11, x0, x5
-    .word 0xfff58593  # addi x11, x11, -1
+    .word 0xfff2c593  # xori x11, x5, -1
     .word 0x18812683  # lw x13, 392(x2)
     .word 0x18c12783  # lw x15, 396(x2)
     .word 0x19012883  # lw x17, 400(x2)
     .word 0x19412283  # lw x5, 404(x2)
-    .word 0x40500633  # sub x12, x0, x5
-    .word 0xfff60613  # addi x12, x12, -1
+    .word 0xfff2c613  # xori x12, x5, -1
     .word 0x19812283  # lw x5, 408(x2)
-    .word 0x405002b3  # sub x5, x0, x5
-    .word 0xfff28293  # addi x5, x5, -1
+    .word 0xfff2c293  # xori x5, x5, -1
     .word 0x1c512023  # sw x5, 448(x2)
     .word 0x19c12703  # lw x14, 412(x2)
     .word 0x0115c2b3  # xor x5, x11, x17
@@ -866,7 +854,7 @@ aes128_decrypt_2:
     .word 0xfffb8b93  # addi x23, x23, -1
     .word 0x002b9d93  # slli x27, x23, 2
     .word 0x002d8db3  # add x27, x27, x2
-    .word 0xed4ff06f  # jal x0, -2348
+    .word 0xf04ff06f  # jal x0, -2300
     .word 0x28012823  # sw x0, 656(x2)
     .word 0x00400293  # addi x5, x0, 4
     .word 0x28512a23  # sw x5, 660(x2)

@@ -1,4 +1,4 @@
-# aes128_expand: made by factc 1.0.0 function; 615 words, 640 bytes of stack, profile 1
+# aes128_expand: made by factc 1.0.0 function; 621 words, 640 bytes of stack, profile 1
     .option push
     .option norvc
     .option norelax
@@ -100,18 +100,17 @@ aes128_expand:
     .word 0x00430313  # addi x6, x6, 4
     .word 0xfedff06f  # jal x0, -20
     .word 0x22012623  # sw x0, 556(x2)
-    .word 0x00800293  # addi x5, x0, 8
+    .word 0x00400293  # addi x5, x0, 4
     .word 0x22512823  # sw x5, 560(x2)
     .word 0x22c12303  # lw x6, 556(x2)
     .word 0x23012283  # lw x5, 560(x2)
     .word 0x005332b3  # sltu x5, x6, x5
     .word 0x00029463  # bne x5, x0, 8
-    .word 0x0700006f  # jal x0, 112
+    .word 0x0980006f  # jal x0, 152
     .word 0x18612823  # sw x6, 400(x2)
     .word 0x00130313  # addi x6, x6, 1
     .word 0x22612623  # sw x6, 556(x2)
     .word 0x19012283  # lw x5, 400(x2)
-    .word 0x0012d293  # srli x5, x5, 1
     .word 0x00229513  # slli x10, x5, 2
     .word 0x00251c93  # slli x25, x10, 2
     .word 0x002c8cb3  # add x25, x25, x2
@@ -122,6 +121,7 @@ aes128_expand:
     .word 0x00831313  # slli x6, x6, 8
     .word 0x0062ebb3  # or x23, x5, x6
     .word 0x19012283  # lw x5, 400(x2)
+    .word 0x00129293  # slli x5, x5, 1
     .word 0x002503b3  # add x7, x10, x2
     .word 0x0023c383  # lbu x7, 2(x7)
     .word 0x01039393  # slli x7, x7, 16
@@ -133,7 +133,17 @@ aes128_expand:
     .word 0x00229293  # slli x5, x5, 2
     .word 0x002282b3  # add x5, x5, x2
     .word 0x1662a823  # sw x6, 368(x5)
-    .word 0xf85ff06f  # jal x0, -124
+    .word 0x19012283  # lw x5, 400(x2)
+    .word 0x00129293  # slli x5, x5, 1
+    .word 0x19012303  # lw x6, 400(x2)
+    .word 0x00131313  # slli x6, x6, 1
+    .word 0x00231313  # slli x6, x6, 2
+    .word 0x00230333  # add x6, x6, x2
+    .word 0x17032303  # lw x6, 368(x6)
+    .word 0x00229293  # slli x5, x5, 2
+    .word 0x002282b3  # add x5, x5, x2
+    .word 0x1662aa23  # sw x6, 372(x5)
+    .word 0xf5dff06f  # jal x0, -164
     .word 0x22012623  # sw x0, 556(x2)
     .word 0x00400293  # addi x5, x0, 4
     .word 0x22512823  # sw x5, 560(x2)
@@ -526,25 +536,21 @@ aes128_expand:
     .word 0x0112c7b3  # xor x15, x5, x17
     .word 0x011a48b3  # xor x17, x20, x17
     .word 0x20412283  # lw x5, 516(x2)
-    .word 0x41700333  # sub x6, x0, x23
-    .word 0xfff30313  # addi x6, x6, -1
-    .word 0x0062ca33  # xor x20, x5, x6
+    .word 0x0172c2b3  # xor x5, x5, x23
+    .word 0xfff2ca13  # xori x20, x5, -1
     .word 0x1d412283  # lw x5, 468(x2)
-    .word 0x41500333  # sub x6, x0, x21
-    .word 0xfff30313  # addi x6, x6, -1
-    .word 0x0062c2b3  # xor x5, x5, x6
+    .word 0x0152c2b3  # xor x5, x5, x21
+    .word 0xfff2c293  # xori x5, x5, -1
     .word 0x1c512a23  # sw x5, 468(x2)
     .word 0x00d74833  # xor x16, x14, x13
     .word 0x00f64bb3  # xor x23, x12, x15
     .word 0x00f94633  # xor x12, x18, x15
     .word 0x00d9c6b3  # xor x13, x19, x13
-    .word 0x41700333  # sub x6, x0, x23
-    .word 0xfff30313  # addi x6, x6, -1
-    .word 0x00674733  # xor x14, x14, x6
+    .word 0x017742b3  # xor x5, x14, x23
+    .word 0xfff2c713  # xori x14, x5, -1
     .word 0x1cc12283  # lw x5, 460(x2)
-    .word 0x41000333  # sub x6, x0, x16
-    .word 0xfff30313  # addi x6, x6, -1
-    .word 0x0062c7b3  # xor x15, x5, x6
+    .word 0x0102c2b3  # xor x5, x5, x16
+    .word 0xfff2c793  # xori x15, x5, -1
     .word 0x19112623  # sw x17, 396(x2)
     .word 0x18e12423  # sw x14, 392(x2)
     .word 0x18f12223  # sw x15, 388(x2)
@@ -598,7 +604,7 @@ aes128_expand:
     .word 0x002d8db3  # add x27, x27, x2
     .word 0x00148493  # addi x9, x9, 1
     .word 0x00a4b293  # sltiu x5, x9, 10
-    .word 0xb00290e3  # bne x5, x0, -1280
+    .word 0xb00298e3  # bne x5, x0, -1264
     .word 0xfff48493  # addi x9, x9, -1
     # the result
     .word 0x00000513  # addi x10, x0, 0

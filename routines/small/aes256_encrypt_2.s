@@ -1,4 +1,4 @@
-# aes256_encrypt_2: made by factc 1.0.0 function; 821 words, 832 bytes of stack, profile 1
+# aes256_encrypt_2: made by factc 1.0.0 function; 817 words, 832 bytes of stack, profile 1
     .option push
     .option norvc
     .option norelax
@@ -282,7 +282,7 @@ aes256_encrypt_2:
     .word 0x2ec12283  # lw x5, 748(x2)
     .word 0x005332b3  # sltu x5, x6, x5
     .word 0x00029463  # bne x5, x0, 8
-    .word 0x6240006f  # jal x0, 1572
+    .word 0x6140006f  # jal x0, 1556
     .word 0x22612a23  # sw x6, 564(x2)
     .word 0x00130313  # addi x6, x6, 1
     .word 0x2e612423  # sw x6, 744(x2)
@@ -514,25 +514,21 @@ aes256_encrypt_2:
     .word 0x00d2c5b3  # xor x11, x5, x13
     .word 0x00d846b3  # xor x13, x16, x13
     .word 0x27012283  # lw x5, 624(x2)
-    .word 0x41300333  # sub x6, x0, x19
-    .word 0xfff30313  # addi x6, x6, -1
-    .word 0x0062c833  # xor x16, x5, x6
+    .word 0x0132c2b3  # xor x5, x5, x19
+    .word 0xfff2c813  # xori x16, x5, -1
     .word 0x24012283  # lw x5, 576(x2)
-    .word 0x41100333  # sub x6, x0, x17
-    .word 0xfff30313  # addi x6, x6, -1
-    .word 0x0062c2b3  # xor x5, x5, x6
+    .word 0x0112c2b3  # xor x5, x5, x17
+    .word 0xfff2c293  # xori x5, x5, -1
     .word 0x24512023  # sw x5, 576(x2)
     .word 0x00954633  # xor x12, x10, x9
     .word 0x00ba49b3  # xor x19, x20, x11
     .word 0x00b74a33  # xor x20, x14, x11
     .word 0x0097c4b3  # xor x9, x15, x9
-    .word 0x41300333  # sub x6, x0, x19
-    .word 0xfff30313  # addi x6, x6, -1
-    .word 0x00654533  # xor x10, x10, x6
+    .word 0x013542b3  # xor x5, x10, x19
+    .word 0xfff2c513  # xori x10, x5, -1
     .word 0x23812283  # lw x5, 568(x2)
-    .word 0x40c00333  # sub x6, x0, x12
-    .word 0xfff30313  # addi x6, x6, -1
-    .word 0x0062c5b3  # xor x11, x5, x6
+    .word 0x00c2c2b3  # xor x5, x5, x12
+    .word 0xfff2c593  # xori x11, x5, -1
     .word 0x20d12e23  # sw x13, 540(x2)
     .word 0x20a12c23  # sw x10, 536(x2)
     .word 0x20b12a23  # sw x11, 532(x2)
@@ -674,7 +670,7 @@ aes256_encrypt_2:
     .word 0x008c3293  # sltiu x5, x24, 8
     .word 0xfc0296e3  # bne x5, x0, -52
     .word 0xfffc0c13  # addi x24, x24, -1
-    .word 0x9d1ff06f  # jal x0, -1584
+    .word 0x9e1ff06f  # jal x0, -1568
     .word 0x2e012423  # sw x0, 744(x2)
     .word 0x00400293  # addi x5, x0, 4
     .word 0x2e512623  # sw x5, 748(x2)

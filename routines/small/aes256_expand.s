@@ -1,4 +1,4 @@
-# aes256_expand: made by factc 1.0.0 function; 618 words, 752 bytes of stack, profile 1
+# aes256_expand: made by factc 1.0.0 function; 622 words, 752 bytes of stack, profile 1
     .option push
     .option norvc
     .option norelax
@@ -103,8 +103,7 @@ aes256_expand:
     .word 0x00000493  # addi x9, x0, 0
     .word 0x00000513  # addi x10, x0, 0
     .word 0x00449293  # slli x5, x9, 4
-    .word 0x00155313  # srli x6, x10, 1
-    .word 0x00231313  # slli x6, x6, 2
+    .word 0x00251313  # slli x6, x10, 2
     .word 0x00628633  # add x12, x5, x6
     .word 0x00261d13  # slli x26, x12, 2
     .word 0x002d0d33  # add x26, x26, x2
@@ -114,6 +113,7 @@ aes256_expand:
     .word 0x00134303  # lbu x6, 1(x6)
     .word 0x00831313  # slli x6, x6, 8
     .word 0x0062ec33  # or x24, x5, x6
+    .word 0x00151293  # slli x5, x10, 1
     .word 0x002603b3  # add x7, x12, x2
     .word 0x0023c383  # lbu x7, 2(x7)
     .word 0x01039393  # slli x7, x7, 16
@@ -122,12 +122,20 @@ aes256_expand:
     .word 0x0033c383  # lbu x7, 3(x7)
     .word 0x01839393  # slli x7, x7, 24
     .word 0x00736333  # or x6, x6, x7
-    .word 0x00251293  # slli x5, x10, 2
+    .word 0x00229293  # slli x5, x5, 2
     .word 0x002282b3  # add x5, x5, x2
     .word 0x2062a023  # sw x6, 512(x5)
+    .word 0x00151293  # slli x5, x10, 1
+    .word 0x00151313  # slli x6, x10, 1
+    .word 0x00231313  # slli x6, x6, 2
+    .word 0x00230333  # add x6, x6, x2
+    .word 0x20032303  # lw x6, 512(x6)
+    .word 0x00229293  # slli x5, x5, 2
+    .word 0x002282b3  # add x5, x5, x2
+    .word 0x2062a223  # sw x6, 516(x5)
     .word 0x00150513  # addi x10, x10, 1
-    .word 0x00853293  # sltiu x5, x10, 8
-    .word 0xf8029ee3  # bne x5, x0, -100
+    .word 0x00453293  # sltiu x5, x10, 4
+    .word 0xf6029ee3  # bne x5, x0, -132
     .word 0xfff50513  # addi x10, x10, -1
     .word 0x00000593  # addi x11, x0, 0
     .word 0x00159613  # slli x12, x11, 1
@@ -211,7 +219,7 @@ aes256_expand:
     .word 0xfff78793  # addi x15, x15, -1
     .word 0x00148493  # addi x9, x9, 1
     .word 0x0024b293  # sltiu x5, x9, 2
-    .word 0xe40294e3  # bne x5, x0, -440
+    .word 0xe20294e3  # bne x5, x0, -472
     .word 0xfff48493  # addi x9, x9, -1
     .word 0x00000813  # addi x16, x0, 0
     .word 0x00000893  # addi x17, x0, 0
@@ -518,13 +526,11 @@ aes256_expand:
     .word 0x24512423  # sw x5, 584(x2)
     .word 0x013ac9b3  # xor x19, x21, x19
     .word 0x26c12283  # lw x5, 620(x2)
-    .word 0x41800333  # sub x6, x0, x24
-    .word 0xfff30313  # addi x6, x6, -1
-    .word 0x0062cab3  # xor x21, x5, x6
+    .word 0x0182c2b3  # xor x5, x5, x24
+    .word 0xfff2ca93  # xori x21, x5, -1
     .word 0x22c12283  # lw x5, 556(x2)
-    .word 0x41600333  # sub x6, x0, x22
-    .word 0xfff30313  # addi x6, x6, -1
-    .word 0x0062c2b3  # xor x5, x5, x6
+    .word 0x0162c2b3  # xor x5, x5, x22
+    .word 0xfff2c293  # xori x5, x5, -1
     .word 0x22512623  # sw x5, 556(x2)
     .word 0x23012283  # lw x5, 560(x2)
     .word 0x0122c2b3  # xor x5, x5, x18
@@ -538,15 +544,13 @@ aes256_expand:
     .word 0x22512023  # sw x5, 544(x2)
     .word 0x012a4933  # xor x18, x20, x18
     .word 0x23012283  # lw x5, 560(x2)
-    .word 0x41800333  # sub x6, x0, x24
-    .word 0xfff30313  # addi x6, x6, -1
-    .word 0x0062c2b3  # xor x5, x5, x6
+    .word 0x0182c2b3  # xor x5, x5, x24
+    .word 0xfff2c293  # xori x5, x5, -1
     .word 0x22512823  # sw x5, 560(x2)
     .word 0x22412283  # lw x5, 548(x2)
     .word 0x25012303  # lw x6, 592(x2)
-    .word 0x40600333  # sub x6, x0, x6
-    .word 0xfff30313  # addi x6, x6, -1
     .word 0x0062c2b3  # xor x5, x5, x6
+    .word 0xfff2c293  # xori x5, x5, -1
     .word 0x24512423  # sw x5, 584(x2)
     .word 0x21312e23  # sw x19, 540(x2)
     .word 0x23012283  # lw x5, 560(x2)
@@ -601,7 +605,7 @@ aes256_expand:
     .word 0xfffb8b93  # addi x23, x23, -1
     .word 0x00180813  # addi x16, x16, 1
     .word 0x00d83293  # sltiu x5, x16, 13
-    .word 0x9e029ae3  # bne x5, x0, -1548
+    .word 0xa00292e3  # bne x5, x0, -1532
     .word 0xfff80813  # addi x16, x16, -1
     # the result
     .word 0x00000513  # addi x10, x0, 0

@@ -1,4 +1,4 @@
-# ascon_aead128_encrypt: made by factc 1.0.0 function; 648 words, 400 bytes of stack, profile 1
+# ascon_aead128_encrypt: made by factc 1.0.0 function; 644 words, 400 bytes of stack, profile 1
     .option push
     .option norvc
     .option norelax
@@ -245,7 +245,7 @@ ascon_aead128_encrypt:
     .word 0x12c12283  # lw x5, 300(x2)
     .word 0x005332b3  # sltu x5, x6, x5
     .word 0x00029463  # bne x5, x0, 8
-    .word 0x5880006f  # jal x0, 1416
+    .word 0x5780006f  # jal x0, 1400
     .word 0x10612223  # sw x6, 260(x2)
     .word 0x00130313  # addi x6, x6, 1
     .word 0x12612423  # sw x6, 296(x2)
@@ -371,7 +371,7 @@ ascon_aead128_encrypt:
     .word 0xfa5ff06f  # jal x0, -92
     .word 0x10412283  # lw x5, 260(x2)
     .word 0x10012303  # lw x6, 256(x2)
-    .word 0x30536063  # bltu x6, x5, 768
+    .word 0x2e536863  # bltu x6, x5, 752
     .word 0x10412283  # lw x5, 260(x2)
     .word 0x0012b293  # sltiu x5, x5, 1
     .word 0x10412303  # lw x6, 260(x2)
@@ -387,15 +387,23 @@ ascon_aead128_encrypt:
     .word 0x0063c533  # xor x10, x7, x6
     .word 0x0b812a83  # lw x21, 184(x2)
     .word 0x0bc12703  # lw x14, 188(x2)
-    .word 0x0c012903  # lw x18, 192(x2)
-    .word 0x0c412b83  # lw x23, 196(x2)
-    .word 0x0c812783  # lw x15, 200(x2)
+    .word 0x0c012283  # lw x5, 192(x2)
+    .word 0xfff2c913  # xori x18, x5, -1
+    .word 0x0c412283  # lw x5, 196(x2)
+    .word 0xfff2cc13  # xori x24, x5, -1
+    .word 0x0c812283  # lw x5, 200(x2)
+    .word 0xfff2c793  # xori x15, x5, -1
     .word 0x0cc12283  # lw x5, 204(x2)
+    .word 0xfff2c293  # xori x5, x5, -1
     .word 0x10512823  # sw x5, 272(x2)
-    .word 0x0d012883  # lw x17, 208(x2)
-    .word 0x0d412c03  # lw x24, 212(x2)
-    .word 0x0d812983  # lw x19, 216(x2)
-    .word 0x0dc12c83  # lw x25, 220(x2)
+    .word 0x0d012283  # lw x5, 208(x2)
+    .word 0xfff2c813  # xori x16, x5, -1
+    .word 0x0d412283  # lw x5, 212(x2)
+    .word 0xfff2cb13  # xori x22, x5, -1
+    .word 0x0d812283  # lw x5, 216(x2)
+    .word 0xfff2c993  # xori x19, x5, -1
+    .word 0x0dc12283  # lw x5, 220(x2)
+    .word 0xfff2cc93  # xori x25, x5, -1
     .word 0x12a12823  # sw x10, 304(x2)
     .word 0x00c00293  # addi x5, x0, 12
     .word 0x12512a23  # sw x5, 308(x2)
@@ -403,7 +411,7 @@ ascon_aead128_encrypt:
     .word 0x13412283  # lw x5, 308(x2)
     .word 0x005332b3  # sltu x5, x6, x5
     .word 0x00029463  # bne x5, x0, 8
-    .word 0x2540006f  # jal x0, 596
+    .word 0x2040006f  # jal x0, 516
     .word 0x10612a23  # sw x6, 276(x2)
     .word 0x00130313  # addi x6, x6, 1
     .word 0x12612823  # sw x6, 304(x2)
@@ -412,64 +420,44 @@ ascon_aead128_encrypt:
     .word 0x11412383  # lw x7, 276(x2)
     .word 0x02730333  # mul x6, x6, x7
     .word 0x40628533  # sub x10, x5, x6
-    .word 0x013ac833  # xor x16, x21, x19
-    .word 0x0119cb33  # xor x22, x19, x17
+    .word 0x013ac8b3  # xor x17, x21, x19
+    .word 0x0109cbb3  # xor x23, x19, x16
     .word 0x0127c9b3  # xor x19, x15, x18
-    .word 0x41200333  # sub x6, x0, x18
-    .word 0xfff30313  # addi x6, x6, -1
-    .word 0x01337333  # and x6, x6, x19
-    .word 0x00684a33  # xor x20, x16, x6
-    .word 0x41300333  # sub x6, x0, x19
-    .word 0xfff30313  # addi x6, x6, -1
-    .word 0x01137333  # and x6, x6, x17
-    .word 0x00694ab3  # xor x21, x18, x6
-    .word 0x41100333  # sub x6, x0, x17
-    .word 0xfff30313  # addi x6, x6, -1
-    .word 0x01637333  # and x6, x6, x22
-    .word 0x0069cd33  # xor x26, x19, x6
-    .word 0x41600333  # sub x6, x0, x22
-    .word 0xfff30313  # addi x6, x6, -1
-    .word 0x01037333  # and x6, x6, x16
-    .word 0x0068c9b3  # xor x19, x17, x6
-    .word 0x41000333  # sub x6, x0, x16
-    .word 0xfff30313  # addi x6, x6, -1
-    .word 0x01237333  # and x6, x6, x18
-    .word 0x006b4833  # xor x16, x22, x6
-    .word 0x014ac8b3  # xor x17, x21, x20
-    .word 0x010a4933  # xor x18, x20, x16
-    .word 0x01a9c9b3  # xor x19, x19, x26
-    .word 0x41a00a33  # sub x20, x0, x26
-    .word 0xfffa0a13  # addi x20, x20, -1
-    .word 0x01974b33  # xor x22, x14, x25
-    .word 0x018cccb3  # xor x25, x25, x24
+    .word 0x013972b3  # and x5, x18, x19
+    .word 0x0112ca33  # xor x20, x5, x17
+    .word 0x0109e2b3  # or x5, x19, x16
+    .word 0x0122cd33  # xor x26, x5, x18
+    .word 0x011be2b3  # or x5, x23, x17
+    .word 0x0102cab3  # xor x21, x5, x16
+    .word 0x017872b3  # and x5, x16, x23
+    .word 0x0132c833  # xor x16, x5, x19
+    .word 0xfff8c293  # xori x5, x17, -1
+    .word 0x0122e2b3  # or x5, x5, x18
+    .word 0x0172c8b3  # xor x17, x5, x23
+    .word 0x011a4933  # xor x18, x20, x17
+    .word 0x014d49b3  # xor x19, x26, x20
+    .word 0x010ac2b3  # xor x5, x21, x16
+    .word 0xfff2ca13  # xori x20, x5, -1
+    .word 0x01974bb3  # xor x23, x14, x25
+    .word 0x016cccb3  # xor x25, x25, x22
     .word 0x11012283  # lw x5, 272(x2)
-    .word 0x0172c2b3  # xor x5, x5, x23
+    .word 0x0182c2b3  # xor x5, x5, x24
     .word 0x00a2cd33  # xor x26, x5, x10
-    .word 0x41700333  # sub x6, x0, x23
-    .word 0xfff30313  # addi x6, x6, -1
-    .word 0x01a37333  # and x6, x6, x26
-    .word 0x006b4ab3  # xor x21, x22, x6
-    .word 0x41a00333  # sub x6, x0, x26
-    .word 0xfff30313  # addi x6, x6, -1
-    .word 0x01837333  # and x6, x6, x24
-    .word 0x006bc733  # xor x14, x23, x6
-    .word 0x41800333  # sub x6, x0, x24
-    .word 0xfff30313  # addi x6, x6, -1
-    .word 0x01937333  # and x6, x6, x25
-    .word 0x006d4d33  # xor x26, x26, x6
-    .word 0x41900333  # sub x6, x0, x25
-    .word 0xfff30313  # addi x6, x6, -1
-    .word 0x01637333  # and x6, x6, x22
-    .word 0x006c47b3  # xor x15, x24, x6
-    .word 0x41600333  # sub x6, x0, x22
-    .word 0xfff30313  # addi x6, x6, -1
-    .word 0x01737333  # and x6, x6, x23
-    .word 0x006ccb33  # xor x22, x25, x6
-    .word 0x01574bb3  # xor x23, x14, x21
-    .word 0x016acc33  # xor x24, x21, x22
-    .word 0x01a7ccb3  # xor x25, x15, x26
-    .word 0x41a00d33  # sub x26, x0, x26
-    .word 0xfffd0d13  # addi x26, x26, -1
+    .word 0x01ac72b3  # and x5, x24, x26
+    .word 0x0172cab3  # xor x21, x5, x23
+    .word 0x016d62b3  # or x5, x26, x22
+    .word 0x0182c733  # xor x14, x5, x24
+    .word 0x017ce2b3  # or x5, x25, x23
+    .word 0x0162c7b3  # xor x15, x5, x22
+    .word 0x019b72b3  # and x5, x22, x25
+    .word 0x01a2cb33  # xor x22, x5, x26
+    .word 0xfffbc293  # xori x5, x23, -1
+    .word 0x0182e2b3  # or x5, x5, x24
+    .word 0x0192cbb3  # xor x23, x5, x25
+    .word 0x017acc33  # xor x24, x21, x23
+    .word 0x01574cb3  # xor x25, x14, x21
+    .word 0x0167c2b3  # xor x5, x15, x22
+    .word 0xfff2cd13  # xori x26, x5, -1
     .word 0x01395313  # srli x6, x18, 19
     .word 0x00dc1393  # slli x7, x24, 13
     .word 0x00736333  # or x6, x6, x7
@@ -486,83 +474,91 @@ ascon_aead128_encrypt:
     .word 0x00491393  # slli x7, x18, 4
     .word 0x00736333  # or x6, x6, x7
     .word 0x0062c733  # xor x14, x5, x6
-    .word 0x01dbd313  # srli x6, x23, 29
-    .word 0x00389393  # slli x7, x17, 3
+    .word 0x01dcd313  # srli x6, x25, 29
+    .word 0x00399393  # slli x7, x19, 3
     .word 0x00736333  # or x6, x6, x7
-    .word 0x0068c2b3  # xor x5, x17, x6
-    .word 0x007bd313  # srli x6, x23, 7
-    .word 0x01989393  # slli x7, x17, 25
+    .word 0x0069c2b3  # xor x5, x19, x6
+    .word 0x007cd313  # srli x6, x25, 7
+    .word 0x01999393  # slli x7, x19, 25
     .word 0x00736333  # or x6, x6, x7
     .word 0x0062c933  # xor x18, x5, x6
-    .word 0x01d8d313  # srli x6, x17, 29
-    .word 0x003b9393  # slli x7, x23, 3
+    .word 0x01d9d313  # srli x6, x19, 29
+    .word 0x003c9393  # slli x7, x25, 3
     .word 0x00736333  # or x6, x6, x7
-    .word 0x006bc2b3  # xor x5, x23, x6
-    .word 0x0078d313  # srli x6, x17, 7
-    .word 0x019b9393  # slli x7, x23, 25
+    .word 0x006cc2b3  # xor x5, x25, x6
+    .word 0x0079d313  # srli x6, x19, 7
+    .word 0x019c9393  # slli x7, x25, 25
     .word 0x00736333  # or x6, x6, x7
-    .word 0x0062cbb3  # xor x23, x5, x6
-    .word 0x001a5313  # srli x6, x20, 1
-    .word 0x01fd1393  # slli x7, x26, 31
+    .word 0x0062cc33  # xor x24, x5, x6
+    .word 0x00185313  # srli x6, x16, 1
+    .word 0x01fb1393  # slli x7, x22, 31
     .word 0x00736333  # or x6, x6, x7
-    .word 0x006a42b3  # xor x5, x20, x6
-    .word 0x006a5313  # srli x6, x20, 6
-    .word 0x01ad1393  # slli x7, x26, 26
+    .word 0x006842b3  # xor x5, x16, x6
+    .word 0x00685313  # srli x6, x16, 6
+    .word 0x01ab1393  # slli x7, x22, 26
     .word 0x00736333  # or x6, x6, x7
     .word 0x0062c7b3  # xor x15, x5, x6
-    .word 0x001d5313  # srli x6, x26, 1
-    .word 0x01fa1393  # slli x7, x20, 31
+    .word 0x001b5313  # srli x6, x22, 1
+    .word 0x01f81393  # slli x7, x16, 31
     .word 0x00736333  # or x6, x6, x7
-    .word 0x006d42b3  # xor x5, x26, x6
-    .word 0x006d5313  # srli x6, x26, 6
-    .word 0x01aa1393  # slli x7, x20, 26
+    .word 0x006b42b3  # xor x5, x22, x6
+    .word 0x006b5313  # srli x6, x22, 6
+    .word 0x01a81393  # slli x7, x16, 26
     .word 0x00736333  # or x6, x6, x7
     .word 0x0062c2b3  # xor x5, x5, x6
     .word 0x10512823  # sw x5, 272(x2)
-    .word 0x00a9d313  # srli x6, x19, 10
-    .word 0x016c9393  # slli x7, x25, 22
+    .word 0x00aa5313  # srli x6, x20, 10
+    .word 0x016d1393  # slli x7, x26, 22
     .word 0x00736333  # or x6, x6, x7
-    .word 0x0069c2b3  # xor x5, x19, x6
-    .word 0x0119d313  # srli x6, x19, 17
-    .word 0x00fc9393  # slli x7, x25, 15
+    .word 0x006a42b3  # xor x5, x20, x6
+    .word 0x011a5313  # srli x6, x20, 17
+    .word 0x00fd1393  # slli x7, x26, 15
     .word 0x00736333  # or x6, x6, x7
-    .word 0x0062c8b3  # xor x17, x5, x6
-    .word 0x00acd313  # srli x6, x25, 10
-    .word 0x01699393  # slli x7, x19, 22
+    .word 0x0062c833  # xor x16, x5, x6
+    .word 0x00ad5313  # srli x6, x26, 10
+    .word 0x016a1393  # slli x7, x20, 22
     .word 0x00736333  # or x6, x6, x7
-    .word 0x006cc2b3  # xor x5, x25, x6
-    .word 0x011cd313  # srli x6, x25, 17
-    .word 0x00f99393  # slli x7, x19, 15
+    .word 0x006d42b3  # xor x5, x26, x6
+    .word 0x011d5313  # srli x6, x26, 17
+    .word 0x00fa1393  # slli x7, x20, 15
     .word 0x00736333  # or x6, x6, x7
-    .word 0x0062cc33  # xor x24, x5, x6
-    .word 0x00785313  # srli x6, x16, 7
-    .word 0x019b1393  # slli x7, x22, 25
+    .word 0x0062cb33  # xor x22, x5, x6
+    .word 0x0078d313  # srli x6, x17, 7
+    .word 0x019b9393  # slli x7, x23, 25
     .word 0x00736333  # or x6, x6, x7
-    .word 0x006842b3  # xor x5, x16, x6
-    .word 0x009b5313  # srli x6, x22, 9
-    .word 0x01781393  # slli x7, x16, 23
+    .word 0x0068c2b3  # xor x5, x17, x6
+    .word 0x009bd313  # srli x6, x23, 9
+    .word 0x01789393  # slli x7, x17, 23
     .word 0x00736333  # or x6, x6, x7
     .word 0x0062c9b3  # xor x19, x5, x6
-    .word 0x007b5313  # srli x6, x22, 7
-    .word 0x01981393  # slli x7, x16, 25
+    .word 0x007bd313  # srli x6, x23, 7
+    .word 0x01989393  # slli x7, x17, 25
     .word 0x00736333  # or x6, x6, x7
-    .word 0x006b42b3  # xor x5, x22, x6
-    .word 0x00985313  # srli x6, x16, 9
-    .word 0x017b1393  # slli x7, x22, 23
+    .word 0x006bc2b3  # xor x5, x23, x6
+    .word 0x0098d313  # srli x6, x17, 9
+    .word 0x017b9393  # slli x7, x23, 23
     .word 0x00736333  # or x6, x6, x7
     .word 0x0062ccb3  # xor x25, x5, x6
-    .word 0xda1ff06f  # jal x0, -608
+    .word 0xdf1ff06f  # jal x0, -528
     .word 0x0b512c23  # sw x21, 184(x2)
     .word 0x0ae12e23  # sw x14, 188(x2)
-    .word 0x0d212023  # sw x18, 192(x2)
-    .word 0x0d712223  # sw x23, 196(x2)
-    .word 0x0cf12423  # sw x15, 200(x2)
+    .word 0xfff94293  # xori x5, x18, -1
+    .word 0x0c512023  # sw x5, 192(x2)
+    .word 0xfffc4293  # xori x5, x24, -1
+    .word 0x0c512223  # sw x5, 196(x2)
+    .word 0xfff7c293  # xori x5, x15, -1
+    .word 0x0c512423  # sw x5, 200(x2)
     .word 0x11012283  # lw x5, 272(x2)
+    .word 0xfff2c293  # xori x5, x5, -1
     .word 0x0c512623  # sw x5, 204(x2)
-    .word 0x0d112823  # sw x17, 208(x2)
-    .word 0x0d812a23  # sw x24, 212(x2)
-    .word 0x0d312c23  # sw x19, 216(x2)
-    .word 0x0d912e23  # sw x25, 220(x2)
+    .word 0xfff84293  # xori x5, x16, -1
+    .word 0x0c512823  # sw x5, 208(x2)
+    .word 0xfffb4293  # xori x5, x22, -1
+    .word 0x0c512a23  # sw x5, 212(x2)
+    .word 0xfff9c293  # xori x5, x19, -1
+    .word 0x0c512c23  # sw x5, 216(x2)
+    .word 0xfffcc293  # xori x5, x25, -1
+    .word 0x0c512e23  # sw x5, 220(x2)
     .word 0x10412283  # lw x5, 260(x2)
     .word 0x0012b293  # sltiu x5, x5, 1
     .word 0x10412303  # lw x6, 260(x2)
@@ -598,7 +594,7 @@ ascon_aead128_encrypt:
     .word 0x002282b3  # add x5, x5, x2
     .word 0x0a62ac23  # sw x6, 184(x5)
     .word 0xfa5ff06f  # jal x0, -92
-    .word 0xa6dff06f  # jal x0, -1428
+    .word 0xa7dff06f  # jal x0, -1412
     .word 0x12012423  # sw x0, 296(x2)
     .word 0x01000293  # addi x5, x0, 16
     .word 0x12512623  # sw x5, 300(x2)

@@ -1,4 +1,4 @@
-# divide_32: made by factc 1.0.0 function; 72 words, 80 bytes of stack, profile 1
+# divide_32: made by factc 1.0.0 function; 66 words, 64 bytes of stack, profile 1
     .option push
     .option norvc
     .option norelax
@@ -22,8 +22,8 @@ divide_32:
     .word 0x00b12c23  # sw x11, 24(x2)
     .word 0x00c12e23  # sw x12, 28(x2)
     # the frame's base
-    .word 0xfd010113  # addi x2, x2, -48
-    .cfi_def_cfa 2, 80
+    .word 0xfe010113  # addi x2, x2, -32
+    .cfi_def_cfa 2, 64
     # parameter 0: a word
     .word 0x00a12023  # sw x10, 0(x2)
     # parameter 1: a word
@@ -37,40 +37,34 @@ divide_32:
     .word 0x00000513  # addi x10, x0, 0
     .word 0x00040593  # addi x11, x8, 0
     .word 0x00000613  # addi x12, x0, 0
-    .word 0x00000693  # addi x13, x0, 0
     .word 0x01f55713  # srli x14, x10, 31
     .word 0x00151293  # slli x5, x10, 1
     .word 0x01f5d313  # srli x6, x11, 31
     .word 0x0062e533  # or x10, x5, x6
-    .word 0x00953333  # sltu x6, x10, x9
-    .word 0x00133313  # sltiu x6, x6, 1
-    .word 0x00676733  # or x14, x14, x6
-    .word 0x40e003b3  # sub x7, x0, x14
-    .word 0x0074f333  # and x6, x9, x7
+    .word 0x009536b3  # sltu x13, x10, x9
+    .word 0x00d732b3  # sltu x5, x14, x13
+    .word 0xfff28713  # addi x14, x5, -1
+    .word 0x00e4f333  # and x6, x9, x14
     .word 0x40650533  # sub x10, x10, x6
     .word 0x00159293  # slli x5, x11, 1
-    .word 0x00e2e5b3  # or x11, x5, x14
-    .word 0x00168693  # addi x13, x13, 1
-    .word 0x0086b293  # sltiu x5, x13, 8
-    .word 0xfc0294e3  # bne x5, x0, -56
-    .word 0xfff68693  # addi x13, x13, -1
+    .word 0x40e285b3  # sub x11, x5, x14
     .word 0x00160613  # addi x12, x12, 1
-    .word 0x00463293  # sltiu x5, x12, 4
-    .word 0xfa029ae3  # bne x5, x0, -76
+    .word 0x02063293  # sltiu x5, x12, 32
+    .word 0xfc0296e3  # bne x5, x0, -52
     .word 0xfff60613  # addi x12, x12, -1
     .word 0x00b12423  # sw x11, 8(x2)
     .word 0x00a12623  # sw x10, 12(x2)
     # the result
     .word 0x00000513  # addi x10, x0, 0
     # parameter 2: the array, back
-    .word 0x04c12283  # lw x5, 76(x2)
+    .word 0x03c12283  # lw x5, 60(x2)
     .word 0x00810313  # addi x6, x2, 8
     .word 0x00032e03  # lw x28, 0(x6)
     .word 0x01c2a023  # sw x28, 0(x5)
     .word 0x00432e03  # lw x28, 4(x6)
     .word 0x01c2a223  # sw x28, 4(x5)
     # above the frame
-    .word 0x03010293  # addi x5, x2, 48
+    .word 0x02010293  # addi x5, x2, 32
     # the caller's registers
     .word 0x0002a403  # lw x8, 0(x5)
     .cfi_restore 8

@@ -1,4 +1,4 @@
-# hchacha20: made by factc 1.0.0 function; 431 words, 176 bytes of stack, profile 1
+# hchacha20: made by factc 1.0.0 function; 423 words, 160 bytes of stack, profile 1
     .option push
     .option norvc
     .option norelax
@@ -33,15 +33,13 @@ hchacha20:
     .cfi_offset 24, -32
     .word 0x03912223  # sw x25, 36(x2)
     .cfi_offset 25, -28
-    .word 0x03a12423  # sw x26, 40(x2)
-    .cfi_offset 26, -24
     # arguments that are needed behind the body
     .word 0x02a12a23  # sw x10, 52(x2)
     .word 0x02b12c23  # sw x11, 56(x2)
     .word 0x02c12e23  # sw x12, 60(x2)
     # the frame's base
-    .word 0xf9010113  # addi x2, x2, -112
-    .cfi_def_cfa 2, 176
+    .word 0xfa010113  # addi x2, x2, -96
+    .cfi_def_cfa 2, 160
     # parameter 0: an array
     .word 0x00050293  # addi x5, x10, 0
     .word 0x00010313  # addi x6, x2, 0
@@ -62,7 +60,6 @@ hchacha20:
     .word 0xfe7298e3  # bne x5, x7, -16
     # the body
     .word 0x00000c93  # addi x25, x0, 0
-    .word 0x00000d13  # addi x26, x0, 0
     .word 0x61708437  # lui x8, 0x61708
     .word 0x86540413  # addi x8, x8, -1947
     .word 0x332064b7  # lui x9, 0x33206
@@ -192,174 +189,169 @@ hchacha20:
     .word 0x01831313  # slli x6, x6, 24
     .word 0x0062ec33  # or x24, x5, x6
     .word 0x00000c93  # addi x25, x0, 0
-    .word 0x00000d13  # addi x26, x0, 0
     .word 0x00c40433  # add x8, x8, x12
-    .word 0x008ac2b3  # xor x5, x21, x8
-    .word 0x01029f13  # slli x30, x5, 16
-    .word 0x0102da93  # srli x21, x5, 16
-    .word 0x015f0ab3  # add x21, x30, x21
+    .word 0x008acab3  # xor x21, x21, x8
+    .word 0x010a9293  # slli x5, x21, 16
+    .word 0x010ad313  # srli x6, x21, 16
+    .word 0x0062eab3  # or x21, x5, x6
     .word 0x01580833  # add x16, x16, x21
-    .word 0x010642b3  # xor x5, x12, x16
-    .word 0x00c29f13  # slli x30, x5, 12
-    .word 0x0142d613  # srli x12, x5, 20
-    .word 0x00cf0633  # add x12, x30, x12
+    .word 0x01064633  # xor x12, x12, x16
+    .word 0x00c61293  # slli x5, x12, 12
+    .word 0x01465313  # srli x6, x12, 20
+    .word 0x0062e633  # or x12, x5, x6
     .word 0x00c40433  # add x8, x8, x12
-    .word 0x008ac2b3  # xor x5, x21, x8
-    .word 0x00829f13  # slli x30, x5, 8
-    .word 0x0182da93  # srli x21, x5, 24
-    .word 0x015f0ab3  # add x21, x30, x21
+    .word 0x008acab3  # xor x21, x21, x8
+    .word 0x008a9293  # slli x5, x21, 8
+    .word 0x018ad313  # srli x6, x21, 24
+    .word 0x0062eab3  # or x21, x5, x6
     .word 0x01580833  # add x16, x16, x21
-    .word 0x010642b3  # xor x5, x12, x16
-    .word 0x00729f13  # slli x30, x5, 7
-    .word 0x0192d613  # srli x12, x5, 25
-    .word 0x00cf0633  # add x12, x30, x12
+    .word 0x01064633  # xor x12, x12, x16
+    .word 0x00761293  # slli x5, x12, 7
+    .word 0x01965313  # srli x6, x12, 25
+    .word 0x0062e633  # or x12, x5, x6
     .word 0x00d484b3  # add x9, x9, x13
-    .word 0x009b42b3  # xor x5, x22, x9
-    .word 0x01029f13  # slli x30, x5, 16
-    .word 0x0102db13  # srli x22, x5, 16
-    .word 0x016f0b33  # add x22, x30, x22
+    .word 0x009b4b33  # xor x22, x22, x9
+    .word 0x010b1293  # slli x5, x22, 16
+    .word 0x010b5313  # srli x6, x22, 16
+    .word 0x0062eb33  # or x22, x5, x6
     .word 0x016888b3  # add x17, x17, x22
-    .word 0x0116c2b3  # xor x5, x13, x17
-    .word 0x00c29f13  # slli x30, x5, 12
-    .word 0x0142d693  # srli x13, x5, 20
-    .word 0x00df06b3  # add x13, x30, x13
+    .word 0x0116c6b3  # xor x13, x13, x17
+    .word 0x00c69293  # slli x5, x13, 12
+    .word 0x0146d313  # srli x6, x13, 20
+    .word 0x0062e6b3  # or x13, x5, x6
     .word 0x00d484b3  # add x9, x9, x13
-    .word 0x009b42b3  # xor x5, x22, x9
-    .word 0x00829f13  # slli x30, x5, 8
-    .word 0x0182db13  # srli x22, x5, 24
-    .word 0x016f0b33  # add x22, x30, x22
+    .word 0x009b4b33  # xor x22, x22, x9
+    .word 0x008b1293  # slli x5, x22, 8
+    .word 0x018b5313  # srli x6, x22, 24
+    .word 0x0062eb33  # or x22, x5, x6
     .word 0x016888b3  # add x17, x17, x22
-    .word 0x0116c2b3  # xor x5, x13, x17
-    .word 0x00729f13  # slli x30, x5, 7
-    .word 0x0192d693  # srli x13, x5, 25
-    .word 0x00df06b3  # add x13, x30, x13
+    .word 0x0116c6b3  # xor x13, x13, x17
+    .word 0x00769293  # slli x5, x13, 7
+    .word 0x0196d313  # srli x6, x13, 25
+    .word 0x0062e6b3  # or x13, x5, x6
     .word 0x00e50533  # add x10, x10, x14
-    .word 0x00abc2b3  # xor x5, x23, x10
-    .word 0x01029f13  # slli x30, x5, 16
-    .word 0x0102db93  # srli x23, x5, 16
-    .word 0x017f0bb3  # add x23, x30, x23
+    .word 0x00abcbb3  # xor x23, x23, x10
+    .word 0x010b9293  # slli x5, x23, 16
+    .word 0x010bd313  # srli x6, x23, 16
+    .word 0x0062ebb3  # or x23, x5, x6
     .word 0x01790933  # add x18, x18, x23
-    .word 0x012742b3  # xor x5, x14, x18
-    .word 0x00c29f13  # slli x30, x5, 12
-    .word 0x0142d713  # srli x14, x5, 20
-    .word 0x00ef0733  # add x14, x30, x14
+    .word 0x01274733  # xor x14, x14, x18
+    .word 0x00c71293  # slli x5, x14, 12
+    .word 0x01475313  # srli x6, x14, 20
+    .word 0x0062e733  # or x14, x5, x6
     .word 0x00e50533  # add x10, x10, x14
-    .word 0x00abc2b3  # xor x5, x23, x10
-    .word 0x00829f13  # slli x30, x5, 8
-    .word 0x0182db93  # srli x23, x5, 24
-    .word 0x017f0bb3  # add x23, x30, x23
+    .word 0x00abcbb3  # xor x23, x23, x10
+    .word 0x008b9293  # slli x5, x23, 8
+    .word 0x018bd313  # srli x6, x23, 24
+    .word 0x0062ebb3  # or x23, x5, x6
     .word 0x01790933  # add x18, x18, x23
-    .word 0x012742b3  # xor x5, x14, x18
-    .word 0x00729f13  # slli x30, x5, 7
-    .word 0x0192d713  # srli x14, x5, 25
-    .word 0x00ef0733  # add x14, x30, x14
+    .word 0x01274733  # xor x14, x14, x18
+    .word 0x00771293  # slli x5, x14, 7
+    .word 0x01975313  # srli x6, x14, 25
+    .word 0x0062e733  # or x14, x5, x6
     .word 0x00f585b3  # add x11, x11, x15
-    .word 0x00bc42b3  # xor x5, x24, x11
-    .word 0x01029f13  # slli x30, x5, 16
-    .word 0x0102dc13  # srli x24, x5, 16
-    .word 0x018f0c33  # add x24, x30, x24
+    .word 0x00bc4c33  # xor x24, x24, x11
+    .word 0x010c1293  # slli x5, x24, 16
+    .word 0x010c5313  # srli x6, x24, 16
+    .word 0x0062ec33  # or x24, x5, x6
     .word 0x018989b3  # add x19, x19, x24
-    .word 0x0137c2b3  # xor x5, x15, x19
-    .word 0x00c29f13  # slli x30, x5, 12
-    .word 0x0142d793  # srli x15, x5, 20
-    .word 0x00ff07b3  # add x15, x30, x15
+    .word 0x0137c7b3  # xor x15, x15, x19
+    .word 0x00c79293  # slli x5, x15, 12
+    .word 0x0147d313  # srli x6, x15, 20
+    .word 0x0062e7b3  # or x15, x5, x6
     .word 0x00f585b3  # add x11, x11, x15
-    .word 0x00bc42b3  # xor x5, x24, x11
-    .word 0x00829f13  # slli x30, x5, 8
-    .word 0x0182dc13  # srli x24, x5, 24
-    .word 0x018f0c33  # add x24, x30, x24
+    .word 0x00bc4c33  # xor x24, x24, x11
+    .word 0x008c1293  # slli x5, x24, 8
+    .word 0x018c5313  # srli x6, x24, 24
+    .word 0x0062ec33  # or x24, x5, x6
     .word 0x018989b3  # add x19, x19, x24
-    .word 0x0137c2b3  # xor x5, x15, x19
-    .word 0x00729f13  # slli x30, x5, 7
-    .word 0x0192d793  # srli x15, x5, 25
-    .word 0x00ff07b3  # add x15, x30, x15
+    .word 0x0137c7b3  # xor x15, x15, x19
+    .word 0x00779293  # slli x5, x15, 7
+    .word 0x0197d313  # srli x6, x15, 25
+    .word 0x0062e7b3  # or x15, x5, x6
     .word 0x00d40433  # add x8, x8, x13
-    .word 0x008c42b3  # xor x5, x24, x8
-    .word 0x01029f13  # slli x30, x5, 16
-    .word 0x0102dc13  # srli x24, x5, 16
-    .word 0x018f0c33  # add x24, x30, x24
+    .word 0x008c4c33  # xor x24, x24, x8
+    .word 0x010c1293  # slli x5, x24, 16
+    .word 0x010c5313  # srli x6, x24, 16
+    .word 0x0062ec33  # or x24, x5, x6
     .word 0x01890933  # add x18, x18, x24
-    .word 0x0126c2b3  # xor x5, x13, x18
-    .word 0x00c29f13  # slli x30, x5, 12
-    .word 0x0142d693  # srli x13, x5, 20
-    .word 0x00df06b3  # add x13, x30, x13
+    .word 0x0126c6b3  # xor x13, x13, x18
+    .word 0x00c69293  # slli x5, x13, 12
+    .word 0x0146d313  # srli x6, x13, 20
+    .word 0x0062e6b3  # or x13, x5, x6
     .word 0x00d40433  # add x8, x8, x13
-    .word 0x008c42b3  # xor x5, x24, x8
-    .word 0x00829f13  # slli x30, x5, 8
-    .word 0x0182dc13  # srli x24, x5, 24
-    .word 0x018f0c33  # add x24, x30, x24
+    .word 0x008c4c33  # xor x24, x24, x8
+    .word 0x008c1293  # slli x5, x24, 8
+    .word 0x018c5313  # srli x6, x24, 24
+    .word 0x0062ec33  # or x24, x5, x6
     .word 0x01890933  # add x18, x18, x24
-    .word 0x0126c2b3  # xor x5, x13, x18
-    .word 0x00729f13  # slli x30, x5, 7
-    .word 0x0192d693  # srli x13, x5, 25
-    .word 0x00df06b3  # add x13, x30, x13
+    .word 0x0126c6b3  # xor x13, x13, x18
+    .word 0x00769293  # slli x5, x13, 7
+    .word 0x0196d313  # srli x6, x13, 25
+    .word 0x0062e6b3  # or x13, x5, x6
     .word 0x00e484b3  # add x9, x9, x14
-    .word 0x009ac2b3  # xor x5, x21, x9
-    .word 0x01029f13  # slli x30, x5, 16
-    .word 0x0102da93  # srli x21, x5, 16
-    .word 0x015f0ab3  # add x21, x30, x21
+    .word 0x009acab3  # xor x21, x21, x9
+    .word 0x010a9293  # slli x5, x21, 16
+    .word 0x010ad313  # srli x6, x21, 16
+    .word 0x0062eab3  # or x21, x5, x6
     .word 0x015989b3  # add x19, x19, x21
-    .word 0x013742b3  # xor x5, x14, x19
-    .word 0x00c29f13  # slli x30, x5, 12
-    .word 0x0142d713  # srli x14, x5, 20
-    .word 0x00ef0733  # add x14, x30, x14
+    .word 0x01374733  # xor x14, x14, x19
+    .word 0x00c71293  # slli x5, x14, 12
+    .word 0x01475313  # srli x6, x14, 20
+    .word 0x0062e733  # or x14, x5, x6
     .word 0x00e484b3  # add x9, x9, x14
-    .word 0x009ac2b3  # xor x5, x21, x9
-    .word 0x00829f13  # slli x30, x5, 8
-    .word 0x0182da93  # srli x21, x5, 24
-    .word 0x015f0ab3  # add x21, x30, x21
+    .word 0x009acab3  # xor x21, x21, x9
+    .word 0x008a9293  # slli x5, x21, 8
+    .word 0x018ad313  # srli x6, x21, 24
+    .word 0x0062eab3  # or x21, x5, x6
     .word 0x015989b3  # add x19, x19, x21
-    .word 0x013742b3  # xor x5, x14, x19
-    .word 0x00729f13  # slli x30, x5, 7
-    .word 0x0192d713  # srli x14, x5, 25
-    .word 0x00ef0733  # add x14, x30, x14
+    .word 0x01374733  # xor x14, x14, x19
+    .word 0x00771293  # slli x5, x14, 7
+    .word 0x01975313  # srli x6, x14, 25
+    .word 0x0062e733  # or x14, x5, x6
     .word 0x00f50533  # add x10, x10, x15
-    .word 0x00ab42b3  # xor x5, x22, x10
-    .word 0x01029f13  # slli x30, x5, 16
-    .word 0x0102db13  # srli x22, x5, 16
-    .word 0x016f0b33  # add x22, x30, x22
+    .word 0x00ab4b33  # xor x22, x22, x10
+    .word 0x010b1293  # slli x5, x22, 16
+    .word 0x010b5313  # srli x6, x22, 16
+    .word 0x0062eb33  # or x22, x5, x6
     .word 0x01680833  # add x16, x16, x22
-    .word 0x0107c2b3  # xor x5, x15, x16
-    .word 0x00c29f13  # slli x30, x5, 12
-    .word 0x0142d793  # srli x15, x5, 20
-    .word 0x00ff07b3  # add x15, x30, x15
+    .word 0x0107c7b3  # xor x15, x15, x16
+    .word 0x00c79293  # slli x5, x15, 12
+    .word 0x0147d313  # srli x6, x15, 20
+    .word 0x0062e7b3  # or x15, x5, x6
     .word 0x00f50533  # add x10, x10, x15
-    .word 0x00ab42b3  # xor x5, x22, x10
-    .word 0x00829f13  # slli x30, x5, 8
-    .word 0x0182db13  # srli x22, x5, 24
-    .word 0x016f0b33  # add x22, x30, x22
+    .word 0x00ab4b33  # xor x22, x22, x10
+    .word 0x008b1293  # slli x5, x22, 8
+    .word 0x018b5313  # srli x6, x22, 24
+    .word 0x0062eb33  # or x22, x5, x6
     .word 0x01680833  # add x16, x16, x22
-    .word 0x0107c2b3  # xor x5, x15, x16
-    .word 0x00729f13  # slli x30, x5, 7
-    .word 0x0192d793  # srli x15, x5, 25
-    .word 0x00ff07b3  # add x15, x30, x15
+    .word 0x0107c7b3  # xor x15, x15, x16
+    .word 0x00779293  # slli x5, x15, 7
+    .word 0x0197d313  # srli x6, x15, 25
+    .word 0x0062e7b3  # or x15, x5, x6
     .word 0x00c585b3  # add x11, x11, x12
-    .word 0x00bbc2b3  # xor x5, x23, x11
-    .word 0x01029f13  # slli x30, x5, 16
-    .word 0x0102db93  # srli x23, x5, 16
-    .word 0x017f0bb3  # add x23, x30, x23
+    .word 0x00bbcbb3  # xor x23, x23, x11
+    .word 0x010b9293  # slli x5, x23, 16
+    .word 0x010bd313  # srli x6, x23, 16
+    .word 0x0062ebb3  # or x23, x5, x6
     .word 0x017888b3  # add x17, x17, x23
-    .word 0x011642b3  # xor x5, x12, x17
-    .word 0x00c29f13  # slli x30, x5, 12
-    .word 0x0142d613  # srli x12, x5, 20
-    .word 0x00cf0633  # add x12, x30, x12
+    .word 0x01164633  # xor x12, x12, x17
+    .word 0x00c61293  # slli x5, x12, 12
+    .word 0x01465313  # srli x6, x12, 20
+    .word 0x0062e633  # or x12, x5, x6
     .word 0x00c585b3  # add x11, x11, x12
-    .word 0x00bbc2b3  # xor x5, x23, x11
-    .word 0x00829f13  # slli x30, x5, 8
-    .word 0x0182db93  # srli x23, x5, 24
-    .word 0x017f0bb3  # add x23, x30, x23
+    .word 0x00bbcbb3  # xor x23, x23, x11
+    .word 0x008b9293  # slli x5, x23, 8
+    .word 0x018bd313  # srli x6, x23, 24
+    .word 0x0062ebb3  # or x23, x5, x6
     .word 0x017888b3  # add x17, x17, x23
-    .word 0x011642b3  # xor x5, x12, x17
-    .word 0x00729f13  # slli x30, x5, 7
-    .word 0x0192d613  # srli x12, x5, 25
-    .word 0x00cf0633  # add x12, x30, x12
-    .word 0x001d0d13  # addi x26, x26, 1
-    .word 0x002d3293  # sltiu x5, x26, 2
-    .word 0xd6029ce3  # bne x5, x0, -648
-    .word 0xfffd0d13  # addi x26, x26, -1
+    .word 0x01164633  # xor x12, x12, x17
+    .word 0x00761293  # slli x5, x12, 7
+    .word 0x01965313  # srli x6, x12, 25
+    .word 0x0062e633  # or x12, x5, x6
     .word 0x001c8c93  # addi x25, x25, 1
-    .word 0x005cb293  # sltiu x5, x25, 5
-    .word 0xd60292e3  # bne x5, x0, -668
+    .word 0x00acb293  # sltiu x5, x25, 10
+    .word 0xd6029ce3  # bne x5, x0, -648
     .word 0xfffc8c93  # addi x25, x25, -1
     .word 0x02810823  # sb x8, 48(x2)
     .word 0x00845293  # srli x5, x8, 8
@@ -420,7 +412,7 @@ hchacha20:
     # the result
     .word 0x00000513  # addi x10, x0, 0
     # parameter 2: the array, back
-    .word 0x0ac12283  # lw x5, 172(x2)
+    .word 0x09c12283  # lw x5, 156(x2)
     .word 0x03010313  # addi x6, x2, 48
     .word 0x02028393  # addi x7, x5, 32
     .word 0x00034e03  # lbu x28, 0(x6)
@@ -429,7 +421,7 @@ hchacha20:
     .word 0x00130313  # addi x6, x6, 1
     .word 0xfe7298e3  # bne x5, x7, -16
     # above the frame
-    .word 0x07010293  # addi x5, x2, 112
+    .word 0x06010293  # addi x5, x2, 96
     # the caller's registers
     .word 0x0002a403  # lw x8, 0(x5)
     .cfi_restore 8
@@ -451,8 +443,6 @@ hchacha20:
     .cfi_restore 24
     .word 0x0242ac83  # lw x25, 36(x5)
     .cfi_restore 25
-    .word 0x0282ad03  # lw x26, 40(x5)
-    .cfi_restore 26
     # the caller's x2
     .word 0x04028293  # addi x5, x5, 64
     .cfi_def_cfa 5, 0

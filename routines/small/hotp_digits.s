@@ -1,4 +1,4 @@
-# hotp_digits: made by factc 1.0.0 function; 81 words, 48 bytes of stack, profile 1
+# hotp_digits: made by factc 1.0.0 function; 77 words, 48 bytes of stack, profile 1
     .option push
     .option norvc
     .option norelax
@@ -30,10 +30,7 @@ hotp_digits:
     .word 0xfe7298e3  # bne x5, x7, -16
     # the body
     .word 0x00000613  # addi x12, x0, 0
-    .word 0x00000693  # addi x13, x0, 0
     .word 0x00000713  # addi x14, x0, 0
-    .word 0x000f47b7  # lui x15, 0x000f4
-    .word 0x24078793  # addi x15, x15, 576
     .word 0x01314283  # lbu x5, 19(x2)
     .word 0x00f2f493  # andi x9, x5, 15
     .word 0x00014283  # lbu x5, 0(x2)
@@ -49,30 +46,29 @@ hotp_digits:
     .word 0x00260333  # add x6, x12, x2
     .word 0x00334303  # lbu x6, 3(x6)
     .word 0x0062e533  # or x10, x5, x6
-    .word 0x40c482b3  # sub x5, x9, x12
-    .word 0x005032b3  # sltu x5, x0, x5
-    .word 0xfff28293  # addi x5, x5, -1
-    .word 0x00b54333  # xor x6, x10, x11
-    .word 0x00537333  # and x6, x6, x5
-    .word 0x0065c5b3  # xor x11, x11, x6
+    .word 0x0014b393  # sltiu x7, x9, 1
+    .word 0x407003b3  # sub x7, x0, x7
+    .word 0x00757333  # and x6, x10, x7
+    .word 0x0065e5b3  # or x11, x11, x6
+    .word 0xfff48493  # addi x9, x9, -1
     .word 0x00160613  # addi x12, x12, 1
     .word 0x01063293  # sltiu x5, x12, 16
-    .word 0xfc0298e3  # bne x5, x0, -48
+    .word 0xfc029ae3  # bne x5, x0, -44
     .word 0xfff60613  # addi x12, x12, -1
     .word 0x00159593  # slli x11, x11, 1
     .word 0x0015d593  # srli x11, x11, 1
-    .word 0x00000693  # addi x13, x0, 0
-    .word 0x00b00313  # addi x6, x0, 11
-    .word 0x40d30333  # sub x6, x6, x13
-    .word 0x00679733  # sll x14, x15, x6
-    .word 0x00e5b333  # sltu x6, x11, x14
-    .word 0xfff30313  # addi x6, x6, -1
-    .word 0x00677333  # and x6, x14, x6
+    .word 0x7a1206b7  # lui x13, 0x7a120
+    .word 0x00068693  # addi x13, x13, 0
+    .word 0x00000713  # addi x14, x0, 0
+    .word 0x00d5b3b3  # sltu x7, x11, x13
+    .word 0xfff38393  # addi x7, x7, -1
+    .word 0x0076f333  # and x6, x13, x7
     .word 0x406585b3  # sub x11, x11, x6
-    .word 0x00168693  # addi x13, x13, 1
-    .word 0x00c6b293  # sltiu x5, x13, 12
-    .word 0xfc029ee3  # bne x5, x0, -36
-    .word 0xfff68693  # addi x13, x13, -1
+    .word 0x0016d693  # srli x13, x13, 1
+    .word 0x00170713  # addi x14, x14, 1
+    .word 0x00c73293  # sltiu x5, x14, 12
+    .word 0xfe0292e3  # bne x5, x0, -28
+    .word 0xfff70713  # addi x14, x14, -1
     .word 0x00b12a23  # sw x11, 20(x2)
     # the result
     .word 0x01412503  # lw x10, 20(x2)

@@ -6,7 +6,7 @@
 #define FACT_hsalsa20_H
 #include <stdbool.h>
 #include <stdint.h>
-#define hsalsa20_STACK_BYTES 176
+#define hsalsa20_STACK_BYTES 160
 #ifdef __cplusplus
 extern "C" {
 #endif

@@ -1,4 +1,4 @@
-# hsalsa20: made by factc 1.0.0 function; 431 words, 176 bytes of stack, profile 1
+# hsalsa20: made by factc 1.0.0 function; 425 words, 160 bytes of stack, profile 1
     .option push
     .option norvc
     .option norelax
@@ -40,8 +40,8 @@ hsalsa20:
     .word 0x02b12c23  # sw x11, 56(x2)
     .word 0x02c12e23  # sw x12, 60(x2)
     # the frame's base
-    .word 0xf9010113  # addi x2, x2, -112
-    .cfi_def_cfa 2, 176
+    .word 0xfa010113  # addi x2, x2, -96
+    .cfi_def_cfa 2, 160
     # parameter 0: an array
     .word 0x00050293  # addi x5, x10, 0
     .word 0x00010313  # addi x6, x2, 0
@@ -61,47 +61,46 @@ hsalsa20:
     .word 0x00130313  # addi x6, x6, 1
     .word 0xfe7298e3  # bne x5, x7, -16
     # the body
-    .word 0x00000c93  # addi x25, x0, 0
     .word 0x00000d13  # addi x26, x0, 0
     .word 0x61708437  # lui x8, 0x61708
     .word 0x86540413  # addi x8, x8, -1947
     .word 0x00014283  # lbu x5, 0(x2)
     .word 0x00114303  # lbu x6, 1(x2)
     .word 0x00831313  # slli x6, x6, 8
-    .word 0x0062e6b3  # or x13, x5, x6
+    .word 0x0062ecb3  # or x25, x5, x6
     .word 0x00214303  # lbu x6, 2(x2)
     .word 0x01031313  # slli x6, x6, 16
-    .word 0x0066e2b3  # or x5, x13, x6
+    .word 0x006ce2b3  # or x5, x25, x6
     .word 0x00314303  # lbu x6, 3(x2)
     .word 0x01831313  # slli x6, x6, 24
     .word 0x0062e4b3  # or x9, x5, x6
     .word 0x00414283  # lbu x5, 4(x2)
     .word 0x00514303  # lbu x6, 5(x2)
     .word 0x00831313  # slli x6, x6, 8
-    .word 0x0062e6b3  # or x13, x5, x6
+    .word 0x0062ecb3  # or x25, x5, x6
     .word 0x00614303  # lbu x6, 6(x2)
     .word 0x01031313  # slli x6, x6, 16
-    .word 0x0066e2b3  # or x5, x13, x6
+    .word 0x006ce2b3  # or x5, x25, x6
     .word 0x00714303  # lbu x6, 7(x2)
     .word 0x01831313  # slli x6, x6, 24
     .word 0x0062e533  # or x10, x5, x6
     .word 0x00814283  # lbu x5, 8(x2)
     .word 0x00914303  # lbu x6, 9(x2)
     .word 0x00831313  # slli x6, x6, 8
-    .word 0x0062e6b3  # or x13, x5, x6
+    .word 0x0062ecb3  # or x25, x5, x6
     .word 0x00a14303  # lbu x6, 10(x2)
     .word 0x01031313  # slli x6, x6, 16
-    .word 0x0066e2b3  # or x5, x13, x6
+    .word 0x006ce2b3  # or x5, x25, x6
     .word 0x00b14303  # lbu x6, 11(x2)
     .word 0x01831313  # slli x6, x6, 24
     .word 0x0062e5b3  # or x11, x5, x6
     .word 0x00c14283  # lbu x5, 12(x2)
     .word 0x00d14303  # lbu x6, 13(x2)
     .word 0x00831313  # slli x6, x6, 8
-    .word 0x0062e6b3  # or x13, x5, x6
+    .word 0x0062ecb3  # or x25, x5, x6
     .word 0x00e14303  # lbu x6, 14(x2)
     .word 0x01031313  # slli x6, x6, 16
-    .word 0x0066e2b3  # or x5, x13, x6
+    .word 0x006ce2b3  # or x5, x25, x6
     .word 0x00f14303  # lbu x6, 15(x2)
     .word 0x01831313  # slli x6, x6, 24
     .word 0x0062e633  # or x12, x5, x6
@@ -152,215 +151,210 @@ hsalsa20:
     .word 0x01014283  # lbu x5, 16(x2)
     .word 0x01114303  # lbu x6, 17(x2)
     .word 0x00831313  # slli x6, x6, 8
-    .word 0x0062ec33  # or x24, x5, x6
+    .word 0x0062ecb3  # or x25, x5, x6
     .word 0x01214303  # lbu x6, 18(x2)
     .word 0x01031313  # slli x6, x6, 16
-    .word 0x006c62b3  # or x5, x24, x6
+    .word 0x006ce2b3  # or x5, x25, x6
     .word 0x01314303  # lbu x6, 19(x2)
     .word 0x01831313  # slli x6, x6, 24
     .word 0x0062ea33  # or x20, x5, x6
     .word 0x01414283  # lbu x5, 20(x2)
     .word 0x01514303  # lbu x6, 21(x2)
     .word 0x00831313  # slli x6, x6, 8
-    .word 0x0062ec33  # or x24, x5, x6
+    .word 0x0062ecb3  # or x25, x5, x6
     .word 0x01614303  # lbu x6, 22(x2)
     .word 0x01031313  # slli x6, x6, 16
-    .word 0x006c62b3  # or x5, x24, x6
+    .word 0x006ce2b3  # or x5, x25, x6
     .word 0x01714303  # lbu x6, 23(x2)
     .word 0x01831313  # slli x6, x6, 24
     .word 0x0062eab3  # or x21, x5, x6
     .word 0x01814283  # lbu x5, 24(x2)
     .word 0x01914303  # lbu x6, 25(x2)
     .word 0x00831313  # slli x6, x6, 8
-    .word 0x0062ec33  # or x24, x5, x6
+    .word 0x0062ecb3  # or x25, x5, x6
     .word 0x01a14303  # lbu x6, 26(x2)
     .word 0x01031313  # slli x6, x6, 16
-    .word 0x006c62b3  # or x5, x24, x6
+    .word 0x006ce2b3  # or x5, x25, x6
     .word 0x01b14303  # lbu x6, 27(x2)
     .word 0x01831313  # slli x6, x6, 24
     .word 0x0062eb33  # or x22, x5, x6
     .word 0x01c14283  # lbu x5, 28(x2)
     .word 0x01d14303  # lbu x6, 29(x2)
     .word 0x00831313  # slli x6, x6, 8
-    .word 0x0062ec33  # or x24, x5, x6
+    .word 0x0062ecb3  # or x25, x5, x6
     .word 0x01e14303  # lbu x6, 30(x2)
     .word 0x01031313  # slli x6, x6, 16
-    .word 0x006c62b3  # or x5, x24, x6
+    .word 0x006ce2b3  # or x5, x25, x6
     .word 0x01f14303  # lbu x6, 31(x2)
     .word 0x01831313  # slli x6, x6, 24
     .word 0x0062ebb3  # or x23, x5, x6
     .word 0x6b206c37  # lui x24, 0x6b206
     .word 0x574c0c13  # addi x24, x24, 1396
-    .word 0x00000c93  # addi x25, x0, 0
     .word 0x00000d13  # addi x26, x0, 0
-    .word 0x01540333  # add x6, x8, x21
-    .word 0x00731f13  # slli x30, x6, 7
-    .word 0x01935313  # srli x6, x6, 25
-    .word 0x006f0333  # add x6, x30, x6
-    .word 0x00664633  # xor x12, x12, x6
-    .word 0x00860333  # add x6, x12, x8
-    .word 0x00931f13  # slli x30, x6, 9
-    .word 0x01735313  # srli x6, x6, 23
-    .word 0x006f0333  # add x6, x30, x6
-    .word 0x0068c8b3  # xor x17, x17, x6
-    .word 0x00c88333  # add x6, x17, x12
-    .word 0x00d31f13  # slli x30, x6, 13
-    .word 0x01335313  # srli x6, x6, 19
-    .word 0x006f0333  # add x6, x30, x6
-    .word 0x006acab3  # xor x21, x21, x6
-    .word 0x011a8333  # add x6, x21, x17
-    .word 0x01231f13  # slli x30, x6, 18
-    .word 0x00e35313  # srli x6, x6, 14
-    .word 0x006f0333  # add x6, x30, x6
-    .word 0x00644433  # xor x8, x8, x6
-    .word 0x00968333  # add x6, x13, x9
-    .word 0x00731f13  # slli x30, x6, 7
-    .word 0x01935313  # srli x6, x6, 25
-    .word 0x006f0333  # add x6, x30, x6
-    .word 0x00694933  # xor x18, x18, x6
-    .word 0x00d90333  # add x6, x18, x13
-    .word 0x00931f13  # slli x30, x6, 9
-    .word 0x01735313  # srli x6, x6, 23
-    .word 0x006f0333  # add x6, x30, x6
-    .word 0x006b4b33  # xor x22, x22, x6
-    .word 0x012b0333  # add x6, x22, x18
-    .word 0x00d31f13  # slli x30, x6, 13
-    .word 0x01335313  # srli x6, x6, 19
-    .word 0x006f0333  # add x6, x30, x6
-    .word 0x0064c4b3  # xor x9, x9, x6
-    .word 0x01648333  # add x6, x9, x22
-    .word 0x01231f13  # slli x30, x6, 18
-    .word 0x00e35313  # srli x6, x6, 14
-    .word 0x006f0333  # add x6, x30, x6
-    .word 0x0066c6b3  # xor x13, x13, x6
-    .word 0x00f98333  # add x6, x19, x15
-    .word 0x00731f13  # slli x30, x6, 7
-    .word 0x01935313  # srli x6, x6, 25
-    .word 0x006f0333  # add x6, x30, x6
-    .word 0x006bcbb3  # xor x23, x23, x6
-    .word 0x013b8333  # add x6, x23, x19
-    .word 0x00931f13  # slli x30, x6, 9
-    .word 0x01735313  # srli x6, x6, 23
-    .word 0x006f0333  # add x6, x30, x6
-    .word 0x00654533  # xor x10, x10, x6
-    .word 0x01750333  # add x6, x10, x23
-    .word 0x00d31f13  # slli x30, x6, 13
-    .word 0x01335313  # srli x6, x6, 19
-    .word 0x006f0333  # add x6, x30, x6
-    .word 0x0067c7b3  # xor x15, x15, x6
-    .word 0x00a78333  # add x6, x15, x10
-    .word 0x01231f13  # slli x30, x6, 18
-    .word 0x00e35313  # srli x6, x6, 14
-    .word 0x006f0333  # add x6, x30, x6
-    .word 0x0069c9b3  # xor x19, x19, x6
-    .word 0x014c0333  # add x6, x24, x20
-    .word 0x00731f13  # slli x30, x6, 7
-    .word 0x01935313  # srli x6, x6, 25
-    .word 0x006f0333  # add x6, x30, x6
-    .word 0x0065c5b3  # xor x11, x11, x6
-    .word 0x01858333  # add x6, x11, x24
-    .word 0x00931f13  # slli x30, x6, 9
-    .word 0x01735313  # srli x6, x6, 23
-    .word 0x006f0333  # add x6, x30, x6
-    .word 0x00684833  # xor x16, x16, x6
-    .word 0x00b80333  # add x6, x16, x11
-    .word 0x00d31f13  # slli x30, x6, 13
-    .word 0x01335313  # srli x6, x6, 19
-    .word 0x006f0333  # add x6, x30, x6
-    .word 0x006a4a33  # xor x20, x20, x6
-    .word 0x010a0333  # add x6, x20, x16
-    .word 0x01231f13  # slli x30, x6, 18
-    .word 0x00e35313  # srli x6, x6, 14
-    .word 0x006f0333  # add x6, x30, x6
-    .word 0x006c4c33  # xor x24, x24, x6
-    .word 0x00b40333  # add x6, x8, x11
-    .word 0x00731f13  # slli x30, x6, 7
-    .word 0x01935313  # srli x6, x6, 25
-    .word 0x006f0333  # add x6, x30, x6
-    .word 0x0064c4b3  # xor x9, x9, x6
-    .word 0x00848333  # add x6, x9, x8
-    .word 0x00931f13  # slli x30, x6, 9
-    .word 0x01735313  # srli x6, x6, 23
-    .word 0x006f0333  # add x6, x30, x6
-    .word 0x00654533  # xor x10, x10, x6
-    .word 0x00950333  # add x6, x10, x9
-    .word 0x00d31f13  # slli x30, x6, 13
-    .word 0x01335313  # srli x6, x6, 19
-    .word 0x006f0333  # add x6, x30, x6
-    .word 0x0065c5b3  # xor x11, x11, x6
-    .word 0x00a58333  # add x6, x11, x10
-    .word 0x01231f13  # slli x30, x6, 18
-    .word 0x00e35313  # srli x6, x6, 14
-    .word 0x006f0333  # add x6, x30, x6
-    .word 0x00644433  # xor x8, x8, x6
-    .word 0x00c68333  # add x6, x13, x12
-    .word 0x00731f13  # slli x30, x6, 7
-    .word 0x01935313  # srli x6, x6, 25
-    .word 0x006f0333  # add x6, x30, x6
-    .word 0x0067c7b3  # xor x15, x15, x6
-    .word 0x00d78333  # add x6, x15, x13
-    .word 0x00931f13  # slli x30, x6, 9
-    .word 0x01735313  # srli x6, x6, 23
-    .word 0x006f0333  # add x6, x30, x6
-    .word 0x00684833  # xor x16, x16, x6
-    .word 0x00f80333  # add x6, x16, x15
-    .word 0x00d31f13  # slli x30, x6, 13
-    .word 0x01335313  # srli x6, x6, 19
-    .word 0x006f0333  # add x6, x30, x6
-    .word 0x00664633  # xor x12, x12, x6
-    .word 0x01060333  # add x6, x12, x16
-    .word 0x01231f13  # slli x30, x6, 18
-    .word 0x00e35313  # srli x6, x6, 14
-    .word 0x006f0333  # add x6, x30, x6
-    .word 0x0066c6b3  # xor x13, x13, x6
-    .word 0x01298333  # add x6, x19, x18
-    .word 0x00731f13  # slli x30, x6, 7
-    .word 0x01935313  # srli x6, x6, 25
-    .word 0x006f0333  # add x6, x30, x6
-    .word 0x006a4a33  # xor x20, x20, x6
-    .word 0x013a0333  # add x6, x20, x19
-    .word 0x00931f13  # slli x30, x6, 9
-    .word 0x01735313  # srli x6, x6, 23
-    .word 0x006f0333  # add x6, x30, x6
-    .word 0x0068c8b3  # xor x17, x17, x6
-    .word 0x01488333  # add x6, x17, x20
-    .word 0x00d31f13  # slli x30, x6, 13
-    .word 0x01335313  # srli x6, x6, 19
-    .word 0x006f0333  # add x6, x30, x6
-    .word 0x00694933  # xor x18, x18, x6
-    .word 0x01190333  # add x6, x18, x17
-    .word 0x01231f13  # slli x30, x6, 18
-    .word 0x00e35313  # srli x6, x6, 14
-    .word 0x006f0333  # add x6, x30, x6
-    .word 0x0069c9b3  # xor x19, x19, x6
-    .word 0x017c0333  # add x6, x24, x23
-    .word 0x00731f13  # slli x30, x6, 7
-    .word 0x01935313  # srli x6, x6, 25
-    .word 0x006f0333  # add x6, x30, x6
-    .word 0x006acab3  # xor x21, x21, x6
-    .word 0x018a8333  # add x6, x21, x24
-    .word 0x00931f13  # slli x30, x6, 9
-    .word 0x01735313  # srli x6, x6, 23
-    .word 0x006f0333  # add x6, x30, x6
-    .word 0x006b4b33  # xor x22, x22, x6
-    .word 0x015b0333  # add x6, x22, x21
-    .word 0x00d31f13  # slli x30, x6, 13
-    .word 0x01335313  # srli x6, x6, 19
-    .word 0x006f0333  # add x6, x30, x6
-    .word 0x006bcbb3  # xor x23, x23, x6
-    .word 0x016b8333  # add x6, x23, x22
-    .word 0x01231f13  # slli x30, x6, 18
-    .word 0x00e35313  # srli x6, x6, 14
-    .word 0x006f0333  # add x6, x30, x6
-    .word 0x006c4c33  # xor x24, x24, x6
+    .word 0x01540cb3  # add x25, x8, x21
+    .word 0x007c9313  # slli x6, x25, 7
+    .word 0x006642b3  # xor x5, x12, x6
+    .word 0x019cd313  # srli x6, x25, 25
+    .word 0x0062c633  # xor x12, x5, x6
+    .word 0x00860cb3  # add x25, x12, x8
+    .word 0x009c9313  # slli x6, x25, 9
+    .word 0x0068c2b3  # xor x5, x17, x6
+    .word 0x017cd313  # srli x6, x25, 23
+    .word 0x0062c8b3  # xor x17, x5, x6
+    .word 0x00c88cb3  # add x25, x17, x12
+    .word 0x00dc9313  # slli x6, x25, 13
+    .word 0x006ac2b3  # xor x5, x21, x6
+    .word 0x013cd313  # srli x6, x25, 19
+    .word 0x0062cab3  # xor x21, x5, x6
+    .word 0x011a8cb3  # add x25, x21, x17
+    .word 0x012c9313  # slli x6, x25, 18
+    .word 0x006442b3  # xor x5, x8, x6
+    .word 0x00ecd313  # srli x6, x25, 14
+    .word 0x0062c433  # xor x8, x5, x6
+    .word 0x00968cb3  # add x25, x13, x9
+    .word 0x007c9313  # slli x6, x25, 7
+    .word 0x006942b3  # xor x5, x18, x6
+    .word 0x019cd313  # srli x6, x25, 25
+    .word 0x0062c933  # xor x18, x5, x6
+    .word 0x00d90cb3  # add x25, x18, x13
+    .word 0x009c9313  # slli x6, x25, 9
+    .word 0x006b42b3  # xor x5, x22, x6
+    .word 0x017cd313  # srli x6, x25, 23
+    .word 0x0062cb33  # xor x22, x5, x6
+    .word 0x012b0cb3  # add x25, x22, x18
+    .word 0x00dc9313  # slli x6, x25, 13
+    .word 0x0064c2b3  # xor x5, x9, x6
+    .word 0x013cd313  # srli x6, x25, 19
+    .word 0x0062c4b3  # xor x9, x5, x6
+    .word 0x01648cb3  # add x25, x9, x22
+    .word 0x012c9313  # slli x6, x25, 18
+    .word 0x0066c2b3  # xor x5, x13, x6
+    .word 0x00ecd313  # srli x6, x25, 14
+    .word 0x0062c6b3  # xor x13, x5, x6
+    .word 0x00f98cb3  # add x25, x19, x15
+    .word 0x007c9313  # slli x6, x25, 7
+    .word 0x006bc2b3  # xor x5, x23, x6
+    .word 0x019cd313  # srli x6, x25, 25
+    .word 0x0062cbb3  # xor x23, x5, x6
+    .word 0x013b8cb3  # add x25, x23, x19
+    .word 0x009c9313  # slli x6, x25, 9
+    .word 0x006542b3  # xor x5, x10, x6
+    .word 0x017cd313  # srli x6, x25, 23
+    .word 0x0062c533  # xor x10, x5, x6
+    .word 0x01750cb3  # add x25, x10, x23
+    .word 0x00dc9313  # slli x6, x25, 13
+    .word 0x0067c2b3  # xor x5, x15, x6
+    .word 0x013cd313  # srli x6, x25, 19
+    .word 0x0062c7b3  # xor x15, x5, x6
+    .word 0x00a78cb3  # add x25, x15, x10
+    .word 0x012c9313  # slli x6, x25, 18
+    .word 0x0069c2b3  # xor x5, x19, x6
+    .word 0x00ecd313  # srli x6, x25, 14
+    .word 0x0062c9b3  # xor x19, x5, x6
+    .word 0x014c0cb3  # add x25, x24, x20
+    .word 0x007c9313  # slli x6, x25, 7
+    .word 0x0065c2b3  # xor x5, x11, x6
+    .word 0x019cd313  # srli x6, x25, 25
+    .word 0x0062c5b3  # xor x11, x5, x6
+    .word 0x01858cb3  # add x25, x11, x24
+    .word 0x009c9313  # slli x6, x25, 9
+    .word 0x006842b3  # xor x5, x16, x6
+    .word 0x017cd313  # srli x6, x25, 23
+    .word 0x0062c833  # xor x16, x5, x6
+    .word 0x00b80cb3  # add x25, x16, x11
+    .word 0x00dc9313  # slli x6, x25, 13
+    .word 0x006a42b3  # xor x5, x20, x6
+    .word 0x013cd313  # srli x6, x25, 19
+    .word 0x0062ca33  # xor x20, x5, x6
+    .word 0x010a0cb3  # add x25, x20, x16
+    .word 0x012c9313  # slli x6, x25, 18
+    .word 0x006c42b3  # xor x5, x24, x6
+    .word 0x00ecd313  # srli x6, x25, 14
+    .word 0x0062cc33  # xor x24, x5, x6
+    .word 0x00b40cb3  # add x25, x8, x11
+    .word 0x007c9313  # slli x6, x25, 7
+    .word 0x0064c2b3  # xor x5, x9, x6
+    .word 0x019cd313  # srli x6, x25, 25
+    .word 0x0062c4b3  # xor x9, x5, x6
+    .word 0x00848cb3  # add x25, x9, x8
+    .word 0x009c9313  # slli x6, x25, 9
+    .word 0x006542b3  # xor x5, x10, x6
+    .word 0x017cd313  # srli x6, x25, 23
+    .word 0x0062c533  # xor x10, x5, x6
+    .word 0x00950cb3  # add x25, x10, x9
+    .word 0x00dc9313  # slli x6, x25, 13
+    .word 0x0065c2b3  # xor x5, x11, x6
+    .word 0x013cd313  # srli x6, x25, 19
+    .word 0x0062c5b3  # xor x11, x5, x6
+    .word 0x00a58cb3  # add x25, x11, x10
+    .word 0x012c9313  # slli x6, x25, 18
+    .word 0x006442b3  # xor x5, x8, x6
+    .word 0x00ecd313  # srli x6, x25, 14
+    .word 0x0062c433  # xor x8, x5, x6
+    .word 0x00c68cb3  # add x25, x13, x12
+    .word 0x007c9313  # slli x6, x25, 7
+    .word 0x0067c2b3  # xor x5, x15, x6
+    .word 0x019cd313  # srli x6, x25, 25
+    .word 0x0062c7b3  # xor x15, x5, x6
+    .word 0x00d78cb3  # add x25, x15, x13
+    .word 0x009c9313  # slli x6, x25, 9
+    .word 0x006842b3  # xor x5, x16, x6
+    .word 0x017cd313  # srli x6, x25, 23
+    .word 0x0062c833  # xor x16, x5, x6
+    .word 0x00f80cb3  # add x25, x16, x15
+    .word 0x00dc9313  # slli x6, x25, 13
+    .word 0x006642b3  # xor x5, x12, x6
+    .word 0x013cd313  # srli x6, x25, 19
+    .word 0x0062c633  # xor x12, x5, x6
+    .word 0x01060cb3  # add x25, x12, x16
+    .word 0x012c9313  # slli x6, x25, 18
+    .word 0x0066c2b3  # xor x5, x13, x6
+    .word 0x00ecd313  # srli x6, x25, 14
+    .word 0x0062c6b3  # xor x13, x5, x6
+    .word 0x01298cb3  # add x25, x19, x18
+    .word 0x007c9313  # slli x6, x25, 7
+    .word 0x006a42b3  # xor x5, x20, x6
+    .word 0x019cd313  # srli x6, x25, 25
+    .word 0x0062ca33  # xor x20, x5, x6
+    .word 0x013a0cb3  # add x25, x20, x19
+    .word 0x009c9313  # slli x6, x25, 9
+    .word 0x0068c2b3  # xor x5, x17, x6
+    .word 0x017cd313  # srli x6, x25, 23
+    .word 0x0062c8b3  # xor x17, x5, x6
+    .word 0x01488cb3  # add x25, x17, x20
+    .word 0x00dc9313  # slli x6, x25, 13
+    .word 0x006942b3  # xor x5, x18, x6
+    .word 0x013cd313  # srli x6, x25, 19
+    .word 0x0062c933  # xor x18, x5, x6
+    .word 0x01190cb3  # add x25, x18, x17
+    .word 0x012c9313  # slli x6, x25, 18
+    .word 0x0069c2b3  # xor x5, x19, x6
+    .word 0x00ecd313  # srli x6, x25, 14
+    .word 0x0062c9b3  # xor x19, x5, x6
+    .word 0x017c0cb3  # add x25, x24, x23
+    .word 0x007c9313  # slli x6, x25, 7
+    .word 0x006ac2b3  # xor x5, x21, x6
+    .word 0x019cd313  # srli x6, x25, 25
+    .word 0x0062cab3  # xor x21, x5, x6
+    .word 0x018a8cb3  # add x25, x21, x24
+    .word 0x009c9313  # slli x6, x25, 9
+    .word 0x006b42b3  # xor x5, x22, x6
+    .word 0x017cd313  # srli x6, x25, 23
+    .word 0x0062cb33  # xor x22, x5, x6
+    .word 0x015b0cb3  # add x25, x22, x21
+    .word 0x00dc9313  # slli x6, x25, 13
+    .word 0x006bc2b3  # xor x5, x23, x6
+    .word 0x013cd313  # srli x6, x25, 19
+    .word 0x0062cbb3  # xor x23, x5, x6
+    .word 0x016b8cb3  # add x25, x23, x22
+    .word 0x012c9313  # slli x6, x25, 18
+    .word 0x006c42b3  # xor x5, x24, x6
+    .word 0x00ecd313  # srli x6, x25, 14
+    .word 0x0062cc33  # xor x24, x5, x6
     .word 0x001d0d13  # addi x26, x26, 1
-    .word 0x002d3293  # sltiu x5, x26, 2
+    .word 0x00ad3293  # sltiu x5, x26, 10
     .word 0xd6029ce3  # bne x5, x0, -648
     .word 0xfffd0d13  # addi x26, x26, -1
-    .word 0x001c8c93  # addi x25, x25, 1
-    .word 0x005cb293  # sltiu x5, x25, 5
-    .word 0xd60292e3  # bne x5, x0, -668
-    .word 0xfffc8c93  # addi x25, x25, -1
     .word 0x02810823  # sb x8, 48(x2)
     .word 0x00845293  # srli x5, x8, 8
     .word 0x025108a3  # sb x5, 49(x2)
@@ -420,7 +414,7 @@ hsalsa20:
     # the result
     .word 0x00000513  # addi x10, x0, 0
     # parameter 2: the array, back
-    .word 0x0ac12283  # lw x5, 172(x2)
+    .word 0x09c12283  # lw x5, 156(x2)
     .word 0x03010313  # addi x6, x2, 48
     .word 0x02028393  # addi x7, x5, 32
     .word 0x00034e03  # lbu x28, 0(x6)
@@ -429,7 +423,7 @@ hsalsa20:
     .word 0x00130313  # addi x6, x6, 1
     .word 0xfe7298e3  # bne x5, x7, -16
     # above the frame
-    .word 0x07010293  # addi x5, x2, 112
+    .word 0x06010293  # addi x5, x2, 96
     # the caller's registers
     .word 0x0002a403  # lw x8, 0(x5)
     .cfi_restore 8

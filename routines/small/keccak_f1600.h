@@ -6,7 +6,7 @@
 #define FACT_keccak_f1600_H
 #include <stdbool.h>
 #include <stdint.h>
-#define keccak_f1600_STACK_BYTES 736
+#define keccak_f1600_STACK_BYTES 656
 #ifdef __cplusplus
 extern "C" {
 #endif

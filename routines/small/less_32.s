@@ -1,4 +1,4 @@
-# less_32: made by factc 1.0.0 function; 67 words, 96 bytes of stack, profile 1
+# less_32: made by factc 1.0.0 function; 78 words, 112 bytes of stack, profile 1
     .option push
     .option norvc
     .option norelax
@@ -13,14 +13,12 @@ less_32:
     .word 0xff010113  # addi x2, x2, -16
     .cfi_def_cfa_offset 16
     # the caller's registers
-    .word 0x00812023  # sw x8, 0(x2)
-    .cfi_offset 8, -16
-    .word 0x00912223  # sw x9, 4(x2)
-    .cfi_offset 9, -12
+    .word 0x00912023  # sw x9, 0(x2)
+    .cfi_offset 9, -16
     # arguments that are needed behind the body
     # the frame's base
-    .word 0xfb010113  # addi x2, x2, -80
-    .cfi_def_cfa 2, 96
+    .word 0xfa010113  # addi x2, x2, -96
+    .cfi_def_cfa 2, 112
     # parameter 0: an array
     .word 0x00050293  # addi x5, x10, 0
     .word 0x00010313  # addi x6, x2, 0
@@ -40,35 +38,46 @@ less_32:
     .word 0x00130313  # addi x6, x6, 1
     .word 0xfe7298e3  # bne x5, x7, -16
     # the body
+    .word 0x00000513  # addi x10, x0, 0
+    .word 0x00000593  # addi x11, x0, 0
+    .word 0x00000613  # addi x12, x0, 0
     .word 0x00000493  # addi x9, x0, 0
-    .word 0x00000413  # addi x8, x0, 0
-    .word 0x00000493  # addi x9, x0, 0
-    .word 0x01f00293  # addi x5, x0, 31
-    .word 0x409282b3  # sub x5, x5, x9
+    .word 0x00000513  # addi x10, x0, 0
+    .word 0x01800293  # addi x5, x0, 24
+    .word 0x00351313  # slli x6, x10, 3
+    .word 0x406282b3  # sub x5, x5, x6
+    .word 0x0182f593  # andi x11, x5, 24
+    .word 0x00000613  # addi x12, x0, 0
+    .word 0x00700313  # addi x6, x0, 7
+    .word 0x40c30333  # sub x6, x6, x12
+    .word 0x006582b3  # add x5, x11, x6
     .word 0x002282b3  # add x5, x5, x2
     .word 0x0002c283  # lbu x5, 0(x5)
-    .word 0x01f00313  # addi x6, x0, 31
-    .word 0x40930333  # sub x6, x6, x9
+    .word 0x00700393  # addi x7, x0, 7
+    .word 0x40c383b3  # sub x7, x7, x12
+    .word 0x00758333  # add x6, x11, x7
     .word 0x00230333  # add x6, x6, x2
     .word 0x02034303  # lbu x6, 32(x6)
     .word 0x406282b3  # sub x5, x5, x6
-    .word 0x408282b3  # sub x5, x5, x8
-    .word 0x01f2d413  # srli x8, x5, 31
-    .word 0x00148493  # addi x9, x9, 1
-    .word 0x0204b293  # sltiu x5, x9, 32
-    .word 0xfc0296e3  # bne x5, x0, -52
-    .word 0xfff48493  # addi x9, x9, -1
-    .word 0xfff40293  # addi x5, x8, -1
+    .word 0x409282b3  # sub x5, x5, x9
+    .word 0x01f2d493  # srli x9, x5, 31
+    .word 0x00160613  # addi x12, x12, 1
+    .word 0x00863293  # sltiu x5, x12, 8
+    .word 0xfc0292e3  # bne x5, x0, -60
+    .word 0xfff60613  # addi x12, x12, -1
+    .word 0x00150513  # addi x10, x10, 1
+    .word 0x00453293  # sltiu x5, x10, 4
+    .word 0xfa0290e3  # bne x5, x0, -96
+    .word 0xfff50513  # addi x10, x10, -1
+    .word 0xfff48293  # addi x5, x9, -1
     .word 0x0012b293  # sltiu x5, x5, 1
     .word 0x04512023  # sw x5, 64(x2)
     # the result
     .word 0x04012503  # lw x10, 64(x2)
     # above the frame
-    .word 0x05010293  # addi x5, x2, 80
+    .word 0x06010293  # addi x5, x2, 96
     # the caller's registers
-    .word 0x0002a403  # lw x8, 0(x5)
-    .cfi_restore 8
-    .word 0x0042a483  # lw x9, 4(x5)
+    .word 0x0002a483  # lw x9, 0(x5)
     .cfi_restore 9
     # the caller's x2
     .word 0x01028293  # addi x5, x5, 16

@@ -1,4 +1,4 @@
-# lookup_bytes_16: made by factc 1.0.0 function; 76 words, 320 bytes of stack, profile 1
+# lookup_bytes_16: made by factc 1.0.0 function; 88 words, 320 bytes of stack, profile 1
     .option push
     .option norvc
     .option norelax
@@ -39,29 +39,41 @@ lookup_bytes_16:
     .word 0x00000513  # addi x10, x0, 0
     .word 0x00000593  # addi x11, x0, 0
     .word 0x00000613  # addi x12, x0, 0
+    .word 0x00000693  # addi x13, x0, 0
+    .word 0x00000713  # addi x14, x0, 0
+    .word 0x002707b3  # add x15, x14, x2
     .word 0x00000513  # addi x10, x0, 0
-    .word 0x00000593  # addi x11, x0, 0
-    .word 0x00000613  # addi x12, x0, 0
-    .word 0x00461313  # slli x6, x12, 4
-    .word 0x00a30333  # add x6, x6, x10
-    .word 0x00230333  # add x6, x6, x2
-    .word 0x00434303  # lbu x6, 4(x6)
-    .word 0x409603b3  # sub x7, x12, x9
-    .word 0x0013b393  # sltiu x7, x7, 1
-    .word 0x407003b3  # sub x7, x0, x7
-    .word 0x0ff3f393  # andi x7, x7, 255
-    .word 0x00737333  # and x6, x6, x7
-    .word 0x0065e5b3  # or x11, x11, x6
-    .word 0x00160613  # addi x12, x12, 1
-    .word 0x01063293  # sltiu x5, x12, 16
-    .word 0xfc0298e3  # bne x5, x0, -48
-    .word 0xfff60613  # addi x12, x12, -1
+    .word 0x00000313  # addi x6, x0, 0
     .word 0x002502b3  # add x5, x10, x2
-    .word 0x10b28223  # sb x11, 260(x5)
+    .word 0x10628223  # sb x6, 260(x5)
     .word 0x00150513  # addi x10, x10, 1
     .word 0x01053293  # sltiu x5, x10, 16
-    .word 0xfa0298e3  # bne x5, x0, -80
+    .word 0xfe0296e3  # bne x5, x0, -20
     .word 0xfff50513  # addi x10, x10, -1
+    .word 0x00000593  # addi x11, x0, 0
+    .word 0x00459613  # slli x12, x11, 4
+    .word 0x409582b3  # sub x5, x11, x9
+    .word 0x0012b293  # sltiu x5, x5, 1
+    .word 0x405006b3  # sub x13, x0, x5
+    .word 0x00000713  # addi x14, x0, 0
+    .word 0x002707b3  # add x15, x14, x2
+    .word 0x1047c283  # lbu x5, 260(x15)
+    .word 0x00e60333  # add x6, x12, x14
+    .word 0x00230333  # add x6, x6, x2
+    .word 0x00434303  # lbu x6, 4(x6)
+    .word 0x00d37333  # and x6, x6, x13
+    .word 0x0062e2b3  # or x5, x5, x6
+    .word 0x10578223  # sb x5, 260(x15)
+    .word 0x00170713  # addi x14, x14, 1
+    .word 0x002707b3  # add x15, x14, x2
+    .word 0x01073293  # sltiu x5, x14, 16
+    .word 0xfc029ce3  # bne x5, x0, -40
+    .word 0xfff70713  # addi x14, x14, -1
+    .word 0x002707b3  # add x15, x14, x2
+    .word 0x00158593  # addi x11, x11, 1
+    .word 0x0105b293  # sltiu x5, x11, 16
+    .word 0xfa0296e3  # bne x5, x0, -84
+    .word 0xfff58593  # addi x11, x11, -1
     # the result
     .word 0x00000513  # addi x10, x0, 0
     # parameter 2: the array, back

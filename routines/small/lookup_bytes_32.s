@@ -1,4 +1,4 @@
-# lookup_bytes_32: made by factc 1.0.0 function; 76 words, 592 bytes of stack, profile 1
+# lookup_bytes_32: made by factc 1.0.0 function; 92 words, 592 bytes of stack, profile 1
     .option push
     .option norvc
     .option norelax
@@ -39,29 +39,45 @@ lookup_bytes_32:
     .word 0x00000513  # addi x10, x0, 0
     .word 0x00000593  # addi x11, x0, 0
     .word 0x00000613  # addi x12, x0, 0
+    .word 0x00000693  # addi x13, x0, 0
+    .word 0x00000713  # addi x14, x0, 0
+    .word 0x00000793  # addi x15, x0, 0
     .word 0x00000513  # addi x10, x0, 0
-    .word 0x00000593  # addi x11, x0, 0
-    .word 0x00000613  # addi x12, x0, 0
-    .word 0x00561313  # slli x6, x12, 5
-    .word 0x00a30333  # add x6, x6, x10
-    .word 0x00230333  # add x6, x6, x2
-    .word 0x00434303  # lbu x6, 4(x6)
-    .word 0x409603b3  # sub x7, x12, x9
-    .word 0x0013b393  # sltiu x7, x7, 1
-    .word 0x407003b3  # sub x7, x0, x7
-    .word 0x0ff3f393  # andi x7, x7, 255
-    .word 0x00737333  # and x6, x6, x7
-    .word 0x0065e5b3  # or x11, x11, x6
-    .word 0x00160613  # addi x12, x12, 1
-    .word 0x01063293  # sltiu x5, x12, 16
-    .word 0xfc0298e3  # bne x5, x0, -48
-    .word 0xfff60613  # addi x12, x12, -1
+    .word 0x00000313  # addi x6, x0, 0
     .word 0x002502b3  # add x5, x10, x2
-    .word 0x20b28223  # sb x11, 516(x5)
+    .word 0x20628223  # sb x6, 516(x5)
     .word 0x00150513  # addi x10, x10, 1
     .word 0x02053293  # sltiu x5, x10, 32
-    .word 0xfa0298e3  # bne x5, x0, -80
+    .word 0xfe0296e3  # bne x5, x0, -20
     .word 0xfff50513  # addi x10, x10, -1
+    .word 0x00000593  # addi x11, x0, 0
+    .word 0x00459613  # slli x12, x11, 4
+    .word 0x0015f293  # andi x5, x11, 1
+    .word 0x00429693  # slli x13, x5, 4
+    .word 0x0015d293  # srli x5, x11, 1
+    .word 0x409282b3  # sub x5, x5, x9
+    .word 0x0012b293  # sltiu x5, x5, 1
+    .word 0x40500733  # sub x14, x0, x5
+    .word 0x00000793  # addi x15, x0, 0
+    .word 0x00f682b3  # add x5, x13, x15
+    .word 0x00f68333  # add x6, x13, x15
+    .word 0x00230333  # add x6, x6, x2
+    .word 0x20434303  # lbu x6, 516(x6)
+    .word 0x00f603b3  # add x7, x12, x15
+    .word 0x002383b3  # add x7, x7, x2
+    .word 0x0043c383  # lbu x7, 4(x7)
+    .word 0x00e3f3b3  # and x7, x7, x14
+    .word 0x00736333  # or x6, x6, x7
+    .word 0x002282b3  # add x5, x5, x2
+    .word 0x20628223  # sb x6, 516(x5)
+    .word 0x00178793  # addi x15, x15, 1
+    .word 0x0107b293  # sltiu x5, x15, 16
+    .word 0xfc0296e3  # bne x5, x0, -52
+    .word 0xfff78793  # addi x15, x15, -1
+    .word 0x00158593  # addi x11, x11, 1
+    .word 0x0205b293  # sltiu x5, x11, 32
+    .word 0xf8029ee3  # bne x5, x0, -100
+    .word 0xfff58593  # addi x11, x11, -1
     # the result
     .word 0x00000513  # addi x10, x0, 0
     # parameter 2: the array, back

@@ -37,7 +37,7 @@ minimum_maximum_16:
     .word 0x00000593  # addi x11, x0, 0
     .word 0x00012403  # lw x8, 0(x2)
     .word 0x00040493  # addi x9, x8, 0
-    .word 0x00100513  # addi x10, x0, 1
+    .word 0x00000513  # addi x10, x0, 0
     .word 0x00251593  # slli x11, x10, 2
     .word 0x002585b3  # add x11, x11, x2
     .word 0x0005a583  # lw x11, 0(x11)

@@ -6,7 +6,7 @@
 #define FACT_mlkem_decode_12_H
 #include <stdbool.h>
 #include <stdint.h>
-#define mlkem_decode_12_STACK_BYTES 928
+#define mlkem_decode_12_STACK_BYTES 944
 #ifdef __cplusplus
 extern "C" {
 #endif

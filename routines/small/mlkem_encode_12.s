@@ -1,4 +1,4 @@
-# mlkem_encode_12: made by factc 1.0.0 function; 82 words, 928 bytes of stack, profile 1
+# mlkem_encode_12: made by factc 1.0.0 function; 95 words, 928 bytes of stack, profile 1
     .option push
     .option norvc
     .option norelax
@@ -45,28 +45,41 @@ mlkem_encode_12:
     .word 0x00000593  # addi x11, x0, 0
     .word 0x00000613  # addi x12, x0, 0
     .word 0x00000693  # addi x13, x0, 0
-    .word 0x00151713  # slli x14, x10, 1
-    .word 0x00270733  # add x14, x14, x2
-    .word 0x002587b3  # add x15, x11, x2
+    .word 0x00000713  # addi x14, x0, 0
+    .word 0x00000793  # addi x15, x0, 0
+    .word 0x00151813  # slli x16, x10, 1
+    .word 0x00280833  # add x16, x16, x2
+    .word 0x002588b3  # add x17, x11, x2
     .word 0x00000493  # addi x9, x0, 0
-    .word 0x00149513  # slli x10, x9, 1
-    .word 0x00151713  # slli x14, x10, 1
-    .word 0x00270733  # add x14, x14, x2
-    .word 0x009505b3  # add x11, x10, x9
-    .word 0x002587b3  # add x15, x11, x2
-    .word 0x00075603  # lhu x12, 0(x14)
-    .word 0x00275683  # lhu x13, 2(x14)
-    .word 0x20c78023  # sb x12, 512(x15)
+    .word 0x00249513  # slli x10, x9, 2
+    .word 0x00151813  # slli x16, x10, 1
+    .word 0x00280833  # add x16, x16, x2
+    .word 0x00600293  # addi x5, x0, 6
+    .word 0x029285b3  # mul x11, x5, x9
+    .word 0x002588b3  # add x17, x11, x2
+    .word 0x00085603  # lhu x12, 0(x16)
+    .word 0x00285683  # lhu x13, 2(x16)
+    .word 0x00485703  # lhu x14, 4(x16)
+    .word 0x00685783  # lhu x15, 6(x16)
+    .word 0x20c88023  # sb x12, 512(x17)
     .word 0x00865293  # srli x5, x12, 8
     .word 0x00f2f293  # andi x5, x5, 15
     .word 0x00469313  # slli x6, x13, 4
     .word 0x0062e2b3  # or x5, x5, x6
-    .word 0x205780a3  # sb x5, 513(x15)
+    .word 0x205880a3  # sb x5, 513(x17)
     .word 0x0046d293  # srli x5, x13, 4
-    .word 0x20578123  # sb x5, 514(x15)
+    .word 0x20588123  # sb x5, 514(x17)
+    .word 0x20e881a3  # sb x14, 515(x17)
+    .word 0x00875293  # srli x5, x14, 8
+    .word 0x00f2f293  # andi x5, x5, 15
+    .word 0x00479313  # slli x6, x15, 4
+    .word 0x0062e2b3  # or x5, x5, x6
+    .word 0x20588223  # sb x5, 516(x17)
+    .word 0x0047d293  # srli x5, x15, 4
+    .word 0x205882a3  # sb x5, 517(x17)
     .word 0x00148493  # addi x9, x9, 1
-    .word 0x0804b293  # sltiu x5, x9, 128
-    .word 0xfa029ee3  # bne x5, x0, -68
+    .word 0x0404b293  # sltiu x5, x9, 64
+    .word 0xf80298e3  # bne x5, x0, -112
     .word 0xfff48493  # addi x9, x9, -1
     # the result
     .word 0x00000513  # addi x10, x0, 0

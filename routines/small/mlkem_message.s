@@ -1,4 +1,4 @@
-# mlkem_message: made by factc 1.0.0 function; 72 words, 592 bytes of stack, profile 1
+# mlkem_message: made by factc 1.0.0 function; 81 words, 592 bytes of stack, profile 1
     .option push
     .option norvc
     .option norelax
@@ -32,27 +32,37 @@ mlkem_message:
     .word 0x00128293  # addi x5, x5, 1
     .word 0x00130313  # addi x6, x6, 1
     .word 0xfe7298e3  # bne x5, x7, -16
+    # parameter 1: an array
+    .word 0x00058293  # addi x5, x11, 0
+    .word 0x02010313  # addi x6, x2, 32
+    .word 0x20028393  # addi x7, x5, 512
+    .word 0x0002de03  # lhu x28, 0(x5)
+    .word 0x01c31023  # sh x28, 0(x6)
+    .word 0x00228293  # addi x5, x5, 2
+    .word 0x00230313  # addi x6, x6, 2
+    .word 0xfe7298e3  # bne x5, x7, -16
     # the body
     .word 0x00000413  # addi x8, x0, 0
     .word 0x00000493  # addi x9, x0, 0
     .word 0x00000513  # addi x10, x0, 0
+    .word 0x00000593  # addi x11, x0, 0
     .word 0x00000413  # addi x8, x0, 0
-    .word 0x002404b3  # add x9, x8, x2
-    .word 0x0004c483  # lbu x9, 0(x9)
-    .word 0x00000513  # addi x10, x0, 0
-    .word 0x00341293  # slli x5, x8, 3
-    .word 0x00a282b3  # add x5, x5, x10
-    .word 0x00a4d333  # srl x6, x9, x10
+    .word 0x00341493  # slli x9, x8, 3
+    .word 0x00240533  # add x10, x8, x2
+    .word 0x00054503  # lbu x10, 0(x10)
+    .word 0x00000593  # addi x11, x0, 0
+    .word 0x00b482b3  # add x5, x9, x11
+    .word 0x00b55333  # srl x6, x10, x11
     .word 0x00137313  # andi x6, x6, 1
     .word 0x40600333  # sub x6, x0, x6
     .word 0x68137313  # andi x6, x6, 1665
     .word 0x00129293  # slli x5, x5, 1
     .word 0x002282b3  # add x5, x5, x2
     .word 0x02629023  # sh x6, 32(x5)
-    .word 0x00150513  # addi x10, x10, 1
-    .word 0x00853293  # sltiu x5, x10, 8
-    .word 0xfc029ae3  # bne x5, x0, -44
-    .word 0xfff50513  # addi x10, x10, -1
+    .word 0x00158593  # addi x11, x11, 1
+    .word 0x0085b293  # sltiu x5, x11, 8
+    .word 0xfc029ce3  # bne x5, x0, -40
+    .word 0xfff58593  # addi x11, x11, -1
     .word 0x00140413  # addi x8, x8, 1
     .word 0x02043293  # sltiu x5, x8, 32
     .word 0xfa029ce3  # bne x5, x0, -72

@@ -1,4 +1,4 @@
-# modular_power_32: made by factc 1.0.0 function; 142 words, 64 bytes of stack, profile 1
+# modular_power_32: made by factc 1.0.0 function; 114 words, 64 bytes of stack, profile 1
     .option push
     .option norvc
     .option norelax
@@ -57,72 +57,44 @@ modular_power_32:
     .word 0x00060813  # addi x16, x12, 0
     .word 0x00000793  # addi x15, x0, 0
     .word 0x00171713  # slli x14, x14, 1
-    .word 0x00b73333  # sltu x6, x14, x11
-    .word 0xfff30313  # addi x6, x6, -1
-    .word 0x0065f333  # and x6, x11, x6
+    .word 0x00b733b3  # sltu x7, x14, x11
+    .word 0xfff38393  # addi x7, x7, -1
+    .word 0x0075f333  # and x6, x11, x7
     .word 0x40670733  # sub x14, x14, x6
     .word 0x01f85393  # srli x7, x16, 31
     .word 0x407003b3  # sub x7, x0, x7
     .word 0x00767333  # and x6, x12, x7
     .word 0x00670733  # add x14, x14, x6
-    .word 0x00b73333  # sltu x6, x14, x11
-    .word 0xfff30313  # addi x6, x6, -1
-    .word 0x0065f333  # and x6, x11, x6
+    .word 0x00b733b3  # sltu x7, x14, x11
+    .word 0xfff38393  # addi x7, x7, -1
+    .word 0x0075f333  # and x6, x11, x7
     .word 0x40670733  # sub x14, x14, x6
-    .word 0x00171713  # slli x14, x14, 1
-    .word 0x00b73333  # sltu x6, x14, x11
-    .word 0xfff30313  # addi x6, x6, -1
-    .word 0x0065f333  # and x6, x11, x6
-    .word 0x40670733  # sub x14, x14, x6
-    .word 0x01e85393  # srli x7, x16, 30
-    .word 0x0013f393  # andi x7, x7, 1
-    .word 0x407003b3  # sub x7, x0, x7
-    .word 0x00767333  # and x6, x12, x7
-    .word 0x00670733  # add x14, x14, x6
-    .word 0x00b73333  # sltu x6, x14, x11
-    .word 0xfff30313  # addi x6, x6, -1
-    .word 0x0065f333  # and x6, x11, x6
-    .word 0x40670733  # sub x14, x14, x6
-    .word 0x00281813  # slli x16, x16, 2
+    .word 0x00181813  # slli x16, x16, 1
     .word 0x00178793  # addi x15, x15, 1
-    .word 0x0107b293  # sltiu x5, x15, 16
-    .word 0xf80294e3  # bne x5, x0, -120
+    .word 0x0207b293  # sltiu x5, x15, 32
+    .word 0xfc0290e3  # bne x5, x0, -64
     .word 0xfff78793  # addi x15, x15, -1
     .word 0x00070613  # addi x12, x14, 0
     .word 0x00000813  # addi x16, x0, 0
     .word 0x00048893  # addi x17, x9, 0
     .word 0x00000913  # addi x18, x0, 0
     .word 0x00181813  # slli x16, x16, 1
-    .word 0x00b83333  # sltu x6, x16, x11
-    .word 0xfff30313  # addi x6, x6, -1
-    .word 0x0065f333  # and x6, x11, x6
+    .word 0x00b833b3  # sltu x7, x16, x11
+    .word 0xfff38393  # addi x7, x7, -1
+    .word 0x0075f333  # and x6, x11, x7
     .word 0x40680833  # sub x16, x16, x6
     .word 0x01f8d393  # srli x7, x17, 31
     .word 0x407003b3  # sub x7, x0, x7
     .word 0x00777333  # and x6, x14, x7
     .word 0x00680833  # add x16, x16, x6
-    .word 0x00b83333  # sltu x6, x16, x11
-    .word 0xfff30313  # addi x6, x6, -1
-    .word 0x0065f333  # and x6, x11, x6
+    .word 0x00b833b3  # sltu x7, x16, x11
+    .word 0xfff38393  # addi x7, x7, -1
+    .word 0x0075f333  # and x6, x11, x7
     .word 0x40680833  # sub x16, x16, x6
-    .word 0x00181813  # slli x16, x16, 1
-    .word 0x00b83333  # sltu x6, x16, x11
-    .word 0xfff30313  # addi x6, x6, -1
-    .word 0x0065f333  # and x6, x11, x6
-    .word 0x40680833  # sub x16, x16, x6
-    .word 0x01e8d393  # srli x7, x17, 30
-    .word 0x0013f393  # andi x7, x7, 1
-    .word 0x407003b3  # sub x7, x0, x7
-    .word 0x00777333  # and x6, x14, x7
-    .word 0x00680833  # add x16, x16, x6
-    .word 0x00b83333  # sltu x6, x16, x11
-    .word 0xfff30313  # addi x6, x6, -1
-    .word 0x0065f333  # and x6, x11, x6
-    .word 0x40680833  # sub x16, x16, x6
-    .word 0x00289893  # slli x17, x17, 2
+    .word 0x00189893  # slli x17, x17, 1
     .word 0x00190913  # addi x18, x18, 1
-    .word 0x01093293  # sltiu x5, x18, 16
-    .word 0xf80294e3  # bne x5, x0, -120
+    .word 0x02093293  # sltiu x5, x18, 32
+    .word 0xfc0290e3  # bne x5, x0, -64
     .word 0xfff90913  # addi x18, x18, -1
     .word 0x01f00313  # addi x6, x0, 31
     .word 0x40d30333  # sub x6, x6, x13
@@ -136,7 +108,7 @@ modular_power_32:
     .word 0x00564633  # xor x12, x12, x5
     .word 0x00168693  # addi x13, x13, 1
     .word 0x0206b293  # sltiu x5, x13, 32
-    .word 0xea029ae3  # bne x5, x0, -332
+    .word 0xf20292e3  # bne x5, x0, -220
     .word 0xfff68693  # addi x13, x13, -1
     .word 0x00c12623  # sw x12, 12(x2)
     # the result

@@ -6,7 +6,7 @@
 #define FACT_p256_multiply_H
 #include <stdbool.h>
 #include <stdint.h>
-#define p256_multiply_STACK_BYTES 416
+#define p256_multiply_STACK_BYTES 832
 #ifdef __cplusplus
 extern "C" {
 #endif

@@ -6,7 +6,7 @@
 #define FACT_p256_sign_H
 #include <stdbool.h>
 #include <stdint.h>
-#define p256_sign_STACK_BYTES 1424
+#define p256_sign_STACK_BYTES 1120
 #ifdef __cplusplus
 extern "C" {
 #endif

@@ -1,4 +1,4 @@
-# p256_subtract: made by factc 1.0.0 function; 138 words, 176 bytes of stack, profile 1
+# p256_subtract: made by factc 1.0.0 function; 162 words, 176 bytes of stack, profile 1
     .option push
     .option norvc
     .option norelax
@@ -47,12 +47,18 @@ p256_subtract:
     .word 0x00430313  # addi x6, x6, 4
     .word 0xfe7298e3  # bne x5, x7, -16
     # the body
+    .word 0x00000493  # addi x9, x0, 0
+    .word 0x00000513  # addi x10, x0, 0
+    .word 0x00000593  # addi x11, x0, 0
     .word 0x00000613  # addi x12, x0, 0
     .word 0x00000693  # addi x13, x0, 0
+    .word 0x00000713  # addi x14, x0, 0
     .word 0x00000793  # addi x15, x0, 0
-    .word 0x00000813  # addi x16, x0, 0
-    .word 0x00000893  # addi x17, x0, 0
-    .word 0x00261913  # slli x18, x12, 2
+    .word 0x00249813  # slli x16, x9, 2
+    .word 0x00280833  # add x16, x16, x2
+    .word 0x00261893  # slli x17, x12, 2
+    .word 0x002888b3  # add x17, x17, x2
+    .word 0x00271913  # slli x18, x14, 2
     .word 0x00290933  # add x18, x18, x2
     .word 0x00279993  # slli x19, x15, 2
     .word 0x002989b3  # add x19, x19, x2
@@ -66,61 +72,79 @@ p256_subtract:
     .word 0x00032023  # sw x0, 0(x6)
     .word 0x00430313  # addi x6, x6, 4
     .word 0xfedff06f  # jal x0, -20
-    .word 0x00000593  # addi x11, x0, 0
+    .word 0x00000413  # addi x8, x0, 0
+    .word 0x00000493  # addi x9, x0, 0
+    .word 0x00249813  # slli x16, x9, 2
+    .word 0x00280833  # add x16, x16, x2
+    .word 0x00082683  # lw x13, 0(x16)
+    .word 0x02082503  # lw x10, 32(x16)
+    .word 0x40a685b3  # sub x11, x13, x10
+    .word 0x408582b3  # sub x5, x11, x8
+    .word 0x06582023  # sw x5, 96(x16)
+    .word 0x00a6b2b3  # sltu x5, x13, x10
+    .word 0x0085b333  # sltu x6, x11, x8
+    .word 0x00628433  # add x8, x5, x6
+    .word 0x00148493  # addi x9, x9, 1
+    .word 0x00249813  # slli x16, x9, 2
+    .word 0x00280833  # add x16, x16, x2
+    .word 0x0084b293  # sltiu x5, x9, 8
+    .word 0xfc0298e3  # bne x5, x0, -48
+    .word 0xfff48493  # addi x9, x9, -1
+    .word 0x00249813  # slli x16, x9, 2
+    .word 0x00280833  # add x16, x16, x2
+    .word 0x00040693  # addi x13, x8, 0
     .word 0x00000613  # addi x12, x0, 0
-    .word 0x00261913  # slli x18, x12, 2
-    .word 0x00290933  # add x18, x18, x2
-    .word 0x00092283  # lw x5, 0(x18)
-    .word 0x02092303  # lw x6, 32(x18)
-    .word 0x406286b3  # sub x13, x5, x6
-    .word 0x40b682b3  # sub x5, x13, x11
-    .word 0x06592023  # sw x5, 96(x18)
-    .word 0x00092283  # lw x5, 0(x18)
-    .word 0x02092303  # lw x6, 32(x18)
-    .word 0x0062b2b3  # sltu x5, x5, x6
-    .word 0x00b6b333  # sltu x6, x13, x11
-    .word 0x006285b3  # add x11, x5, x6
+    .word 0x00261893  # slli x17, x12, 2
+    .word 0x002888b3  # add x17, x17, x2
+    .word 0x0608a503  # lw x10, 96(x17)
+    .word 0x40d502b3  # sub x5, x10, x13
+    .word 0x0658a023  # sw x5, 96(x17)
+    .word 0x00d536b3  # sltu x13, x10, x13
     .word 0x00160613  # addi x12, x12, 1
-    .word 0x00261913  # slli x18, x12, 2
-    .word 0x00290933  # add x18, x18, x2
-    .word 0x00863293  # sltiu x5, x12, 8
-    .word 0xfc0294e3  # bne x5, x0, -56
+    .word 0x00261893  # slli x17, x12, 2
+    .word 0x002888b3  # add x17, x17, x2
+    .word 0x00363293  # sltiu x5, x12, 3
+    .word 0xfe0290e3  # bne x5, x0, -32
     .word 0xfff60613  # addi x12, x12, -1
-    .word 0x00261913  # slli x18, x12, 2
+    .word 0x00261893  # slli x17, x12, 2
+    .word 0x002888b3  # add x17, x17, x2
+    .word 0x40d406b3  # sub x13, x8, x13
+    .word 0x00300713  # addi x14, x0, 3
+    .word 0x00271913  # slli x18, x14, 2
     .word 0x00290933  # add x18, x18, x2
-    .word 0x40b00733  # sub x14, x0, x11
-    .word 0x00000593  # addi x11, x0, 0
+    .word 0x06092283  # lw x5, 96(x18)
+    .word 0x00d282b3  # add x5, x5, x13
+    .word 0x06592023  # sw x5, 96(x18)
+    .word 0x06092283  # lw x5, 96(x18)
+    .word 0x00d2b6b3  # sltu x13, x5, x13
+    .word 0x00170713  # addi x14, x14, 1
+    .word 0x00271913  # slli x18, x14, 2
+    .word 0x00290933  # add x18, x18, x2
+    .word 0x00673293  # sltiu x5, x14, 6
+    .word 0xfc029ee3  # bne x5, x0, -36
+    .word 0xfff70713  # addi x14, x14, -1
+    .word 0x00271913  # slli x18, x14, 2
+    .word 0x00290933  # add x18, x18, x2
+    .word 0x008686b3  # add x13, x13, x8
+    .word 0x07812283  # lw x5, 120(x2)
+    .word 0x00d282b3  # add x5, x5, x13
+    .word 0x06512c23  # sw x5, 120(x2)
+    .word 0x07812283  # lw x5, 120(x2)
+    .word 0x00d2b6b3  # sltu x13, x5, x13
+    .word 0x07c12283  # lw x5, 124(x2)
+    .word 0x00d282b3  # add x5, x5, x13
+    .word 0x408282b3  # sub x5, x5, x8
+    .word 0x06512e23  # sw x5, 124(x2)
     .word 0x00000793  # addi x15, x0, 0
     .word 0x00279993  # slli x19, x15, 2
     .word 0x002989b3  # add x19, x19, x2
-    .word 0x0037b313  # sltiu x6, x15, 3
-    .word 0xff978393  # addi x7, x15, -7
-    .word 0x0013b393  # sltiu x7, x7, 1
-    .word 0x00736333  # or x6, x6, x7
-    .word 0x000003b7  # lui x7, 0x00000
-    .word 0xfff38393  # addi x7, x7, -1
-    .word 0xffa78413  # addi x8, x15, -6
-    .word 0x00803433  # sltu x8, x0, x8
-    .word 0x00100493  # addi x9, x0, 1
-    .word 0xfff40413  # addi x8, x8, -1
-    .word 0x0084f433  # and x8, x9, x8
-    .word 0x40600333  # sub x6, x0, x6
-    .word 0x0083c3b3  # xor x7, x7, x8
-    .word 0x0063f3b3  # and x7, x7, x6
-    .word 0x00744333  # xor x6, x8, x7
-    .word 0x006776b3  # and x13, x14, x6
     .word 0x0609a283  # lw x5, 96(x19)
-    .word 0x00d28833  # add x16, x5, x13
-    .word 0x00b808b3  # add x17, x16, x11
-    .word 0x00d832b3  # sltu x5, x16, x13
-    .word 0x00b8b333  # sltu x6, x17, x11
-    .word 0x006285b3  # add x11, x5, x6
-    .word 0x0519a023  # sw x17, 64(x19)
+    .word 0x0459a023  # sw x5, 64(x19)
     .word 0x00178793  # addi x15, x15, 1
     .word 0x00279993  # slli x19, x15, 2
     .word 0x002989b3  # add x19, x19, x2
     .word 0x0087b293  # sltiu x5, x15, 8
-    .word 0xf8029ae3  # bne x5, x0, -108
+    .word 0xfe0294e3  # bne x5, x0, -24
     .word 0xfff78793  # addi x15, x15, -1
     .word 0x00279993  # slli x19, x15, 2
     .word 0x002989b3  # add x19, x19, x2

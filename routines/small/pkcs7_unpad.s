@@ -1,4 +1,4 @@
-# pkcs7_unpad: made by factc 1.0.0 function; 69 words, 48 bytes of stack, profile 1
+# pkcs7_unpad: made by factc 1.0.0 function; 68 words, 48 bytes of stack, profile 1
     .option push
     .option norvc
     .option norelax
@@ -31,27 +31,26 @@ pkcs7_unpad:
     .word 0x00130313  # addi x6, x6, 1
     .word 0xfe7298e3  # bne x5, x7, -16
     # the body
-    .word 0x00000513  # addi x10, x0, 0
     .word 0x00000593  # addi x11, x0, 0
     .word 0x00f14403  # lbu x8, 15(x2)
     .word 0xfff40293  # addi x5, x8, -1
     .word 0x01000313  # addi x6, x0, 16
     .word 0x40830333  # sub x6, x6, x8
     .word 0x0062e4b3  # or x9, x5, x6
-    .word 0x00000513  # addi x10, x0, 0
     .word 0x00f00293  # addi x5, x0, 15
-    .word 0x40a282b3  # sub x5, x5, x10
-    .word 0x408285b3  # sub x11, x5, x8
-    .word 0x00250333  # add x6, x10, x2
+    .word 0x40828533  # sub x10, x5, x8
+    .word 0x00000593  # addi x11, x0, 0
+    .word 0x00258333  # add x6, x11, x2
     .word 0x00034303  # lbu x6, 0(x6)
     .word 0x00834333  # xor x6, x6, x8
     .word 0x00831313  # slli x6, x6, 8
-    .word 0x00b37333  # and x6, x6, x11
+    .word 0x00a37333  # and x6, x6, x10
     .word 0x0064e4b3  # or x9, x9, x6
-    .word 0x00150513  # addi x10, x10, 1
-    .word 0x01053293  # sltiu x5, x10, 16
-    .word 0xfc029ae3  # bne x5, x0, -44
     .word 0xfff50513  # addi x10, x10, -1
+    .word 0x00158593  # addi x11, x11, 1
+    .word 0x0105b293  # sltiu x5, x11, 16
+    .word 0xfc029ee3  # bne x5, x0, -36
+    .word 0xfff58593  # addi x11, x11, -1
     .word 0x1004b293  # sltiu x5, x9, 256
     .word 0x01000313  # addi x6, x0, 16
     .word 0x40830333  # sub x6, x6, x8

@@ -6,7 +6,7 @@
 #define FACT_salsa20_block_H
 #include <stdbool.h>
 #include <stdint.h>
-#define salsa20_block_STACK_BYTES 240
+#define salsa20_block_STACK_BYTES 224
 #ifdef __cplusplus
 extern "C" {
 #endif

@@ -6,7 +6,7 @@
 #define FACT_sha3_256_short_H
 #include <stdbool.h>
 #include <stdint.h>
-#define sha3_256_short_STACK_BYTES 944
+#define sha3_256_short_STACK_BYTES 992
 #ifdef __cplusplus
 extern "C" {
 #endif

@@ -1,4 +1,4 @@
-# sha_pad_block: made by factc 1.0.0 function; 111 words, 112 bytes of stack, profile 1
+# sha_pad_block: made by factc 1.0.0 function; 130 words, 128 bytes of stack, profile 1
     .option push
     .option norvc
     .option norelax
@@ -10,18 +10,24 @@
 sha_pad_block:
     .cfi_startproc
     # room above the frame
-    .word 0xff010113  # addi x2, x2, -16
-    .cfi_def_cfa_offset 16
+    .word 0xfe010113  # addi x2, x2, -32
+    .cfi_def_cfa_offset 32
     # the caller's registers
     .word 0x00812023  # sw x8, 0(x2)
-    .cfi_offset 8, -16
+    .cfi_offset 8, -32
     .word 0x00912223  # sw x9, 4(x2)
-    .cfi_offset 9, -12
+    .cfi_offset 9, -28
+    .word 0x01212423  # sw x18, 8(x2)
+    .cfi_offset 18, -24
+    .word 0x01312623  # sw x19, 12(x2)
+    .cfi_offset 19, -20
+    .word 0x01412823  # sw x20, 16(x2)
+    .cfi_offset 20, -16
     # arguments that are needed behind the body
-    .word 0x00a12623  # sw x10, 12(x2)
+    .word 0x00a12e23  # sw x10, 28(x2)
     # the frame's base
     .word 0xfa010113  # addi x2, x2, -96
-    .cfi_def_cfa 2, 112
+    .cfi_def_cfa 2, 128
     # parameter 0: an array
     .word 0x00050293  # addi x5, x10, 0
     .word 0x00010313  # addi x6, x2, 0
@@ -38,70 +44,83 @@ sha_pad_block:
     # the body
     .word 0x04012583  # lw x11, 64(x2)
     .word 0x04412603  # lw x12, 68(x2)
-    .word 0x00000693  # addi x13, x0, 0
-    .word 0x00000713  # addi x14, x0, 0
+    .word 0x00000793  # addi x15, x0, 0
     .word 0x00000813  # addi x16, x0, 0
-    .word 0x002688b3  # add x17, x13, x2
-    .word 0x00000693  # addi x13, x0, 0
-    .word 0x002688b3  # add x17, x13, x2
-    .word 0x00659293  # slli x5, x11, 6
-    .word 0x00d28733  # add x14, x5, x13
-    .word 0x00c732b3  # sltu x5, x14, x12
-    .word 0x0008c303  # lbu x6, 0(x17)
-    .word 0x40c703b3  # sub x7, x14, x12
-    .word 0x007033b3  # sltu x7, x0, x7
-    .word 0x08000413  # addi x8, x0, 128
-    .word 0xfff38393  # addi x7, x7, -1
-    .word 0x007473b3  # and x7, x8, x7
+    .word 0x00000893  # addi x17, x0, 0
+    .word 0x00000993  # addi x19, x0, 0
+    .word 0x00278a33  # add x20, x15, x2
+    .word 0x00659693  # slli x13, x11, 6
+    .word 0x40d60733  # sub x14, x12, x13
+    .word 0x00d632b3  # sltu x5, x12, x13
+    .word 0x00100313  # addi x6, x0, 1
+    .word 0x04073393  # sltiu x7, x14, 64
+    .word 0x40e00433  # sub x8, x0, x14
+    .word 0x000004b7  # lui x9, 0x00000
+    .word 0xfc048493  # addi x9, x9, -64
+    .word 0x407003b3  # sub x7, x0, x7
+    .word 0x00944433  # xor x8, x8, x9
+    .word 0x00747433  # and x8, x8, x7
+    .word 0x0084c3b3  # xor x7, x9, x8
     .word 0x405002b3  # sub x5, x0, x5
     .word 0x00734333  # xor x6, x6, x7
     .word 0x00537333  # and x6, x6, x5
-    .word 0x0063c2b3  # xor x5, x7, x6
-    .word 0x00588023  # sb x5, 0(x17)
-    .word 0x00168693  # addi x13, x13, 1
-    .word 0x002688b3  # add x17, x13, x2
-    .word 0x0406b293  # sltiu x5, x13, 64
-    .word 0xfa029ee3  # bne x5, x0, -68
-    .word 0xfff68693  # addi x13, x13, -1
-    .word 0x002688b3  # add x17, x13, x2
+    .word 0x0063c733  # xor x14, x7, x6
+    .word 0x00000793  # addi x15, x0, 0
+    .word 0x00278a33  # add x20, x15, x2
+    .word 0xfff70813  # addi x16, x14, -1
+    .word 0x000a4283  # lbu x5, 0(x20)
+    .word 0x00875313  # srli x6, x14, 8
+    .word 0x0062f8b3  # and x17, x5, x6
+    .word 0x00e842b3  # xor x5, x16, x14
+    .word 0x0102f2b3  # and x5, x5, x16
+    .word 0x0802f813  # andi x16, x5, 128
+    .word 0x0108e2b3  # or x5, x17, x16
+    .word 0x005a0023  # sb x5, 0(x20)
+    .word 0x00170713  # addi x14, x14, 1
+    .word 0x00178793  # addi x15, x15, 1
+    .word 0x00278a33  # add x20, x15, x2
+    .word 0x0407b293  # sltiu x5, x15, 64
+    .word 0xfc0296e3  # bne x5, x0, -52
+    .word 0xfff78793  # addi x15, x15, -1
+    .word 0x00278a33  # add x20, x15, x2
     .word 0x00860293  # addi x5, x12, 8
     .word 0x0062d293  # srli x5, x5, 6
-    .word 0x40b287b3  # sub x15, x5, x11
-    .word 0x0017b793  # sltiu x15, x15, 1
+    .word 0x40b28933  # sub x18, x5, x11
+    .word 0x00193913  # sltiu x18, x18, 1
     .word 0x01d65313  # srli x6, x12, 29
     .word 0x0ff37313  # andi x6, x6, 255
     .word 0x03b14383  # lbu x7, 59(x2)
-    .word 0x40f002b3  # sub x5, x0, x15
+    .word 0x412002b3  # sub x5, x0, x18
     .word 0x00734333  # xor x6, x6, x7
     .word 0x00537333  # and x6, x6, x5
     .word 0x0063c2b3  # xor x5, x7, x6
     .word 0x02510da3  # sb x5, 59(x2)
-    .word 0x00000813  # addi x16, x0, 0
-    .word 0x03c80293  # addi x5, x16, 60
+    .word 0x00000993  # addi x19, x0, 0
+    .word 0x03c98293  # addi x5, x19, 60
     .word 0x00361393  # slli x7, x12, 3
     .word 0x01800413  # addi x8, x0, 24
-    .word 0x00381493  # slli x9, x16, 3
+    .word 0x00399493  # slli x9, x19, 3
     .word 0x40940433  # sub x8, x8, x9
     .word 0x0083d3b3  # srl x7, x7, x8
     .word 0x0ff3f393  # andi x7, x7, 255
-    .word 0x03c80413  # addi x8, x16, 60
+    .word 0x03c98413  # addi x8, x19, 60
     .word 0x00240433  # add x8, x8, x2
     .word 0x00044403  # lbu x8, 0(x8)
-    .word 0x40f00333  # sub x6, x0, x15
+    .word 0x41200333  # sub x6, x0, x18
     .word 0x0083c3b3  # xor x7, x7, x8
     .word 0x0063f3b3  # and x7, x7, x6
     .word 0x00744333  # xor x6, x8, x7
     .word 0x002282b3  # add x5, x5, x2
     .word 0x00628023  # sb x6, 0(x5)
-    .word 0x00180813  # addi x16, x16, 1
-    .word 0x00483293  # sltiu x5, x16, 4
+    .word 0x00198993  # addi x19, x19, 1
+    .word 0x0049b293  # sltiu x5, x19, 4
     .word 0xfa029ce3  # bne x5, x0, -72
-    .word 0xfff80813  # addi x16, x16, -1
-    .word 0x04f12423  # sw x15, 72(x2)
+    .word 0xfff98993  # addi x19, x19, -1
+    .word 0x05212423  # sw x18, 72(x2)
     # the result
     .word 0x04812503  # lw x10, 72(x2)
     # parameter 0: the array, back
-    .word 0x06c12283  # lw x5, 108(x2)
+    .word 0x07c12283  # lw x5, 124(x2)
     .word 0x00010313  # addi x6, x2, 0
     .word 0x04028393  # addi x7, x5, 64
     .word 0x00034e03  # lbu x28, 0(x6)
@@ -116,8 +135,14 @@ sha_pad_block:
     .cfi_restore 8
     .word 0x0042a483  # lw x9, 4(x5)
     .cfi_restore 9
+    .word 0x0082a903  # lw x18, 8(x5)
+    .cfi_restore 18
+    .word 0x00c2a983  # lw x19, 12(x5)
+    .cfi_restore 19
+    .word 0x0102aa03  # lw x20, 16(x5)
+    .cfi_restore 20
     # the caller's x2
-    .word 0x01028293  # addi x5, x5, 16
+    .word 0x02028293  # addi x5, x5, 32
     .cfi_def_cfa 5, 0
     # all the room, wiped upward
     .word 0x00012023  # sw x0, 0(x2)

@@ -1,4 +1,4 @@
-# sort_32: made by factc 1.0.0 function; 128 words, 192 bytes of stack, profile 1
+# sort_32: made by factc 1.0.0 function; 116 words, 192 bytes of stack, profile 1
     .option push
     .option norvc
     .option norelax
@@ -40,8 +40,6 @@ sort_32:
     .word 0x00430313  # addi x6, x6, 4
     .word 0xfe7298e3  # bne x5, x7, -16
     # the body
-    .word 0x00000493  # addi x9, x0, 0
-    .word 0x00000513  # addi x10, x0, 0
     .word 0x00000593  # addi x11, x0, 0
     .word 0x00000613  # addi x12, x0, 0
     .word 0x00000693  # addi x13, x0, 0
@@ -52,67 +50,57 @@ sort_32:
     .word 0x00000913  # addi x18, x0, 0
     .word 0x00000993  # addi x19, x0, 0
     .word 0x00000a13  # addi x20, x0, 0
-    .word 0x00279a93  # slli x21, x15, 2
+    .word 0x00271a93  # slli x21, x14, 2
     .word 0x002a8ab3  # add x21, x21, x2
-    .word 0x00281b13  # slli x22, x16, 2
+    .word 0x00279b13  # slli x22, x15, 2
     .word 0x002b0b33  # add x22, x22, x2
-    .word 0x00000493  # addi x9, x0, 0
-    .word 0x00148513  # addi x10, x9, 1
-    .word 0x08012623  # sw x0, 140(x2)
-    .word 0x08a12823  # sw x10, 144(x2)
-    .word 0x08c12303  # lw x6, 140(x2)
-    .word 0x09012283  # lw x5, 144(x2)
-    .word 0x005332b3  # sltu x5, x6, x5
-    .word 0x00029463  # bne x5, x0, 8
-    .word 0x0b40006f  # jal x0, 180
-    .word 0x00030593  # addi x11, x6, 0
-    .word 0x40b482b3  # sub x5, x9, x11
-    .word 0x0072f613  # andi x12, x5, 7
+    .word 0x00100493  # addi x9, x0, 1
+    .word 0x00000513  # addi x10, x0, 0
+    .word 0x00100593  # addi x11, x0, 1
     .word 0x00100293  # addi x5, x0, 1
-    .word 0x00c296b3  # sll x13, x5, x12
-    .word 0x00000713  # addi x14, x0, 0
-    .word 0x00c752b3  # srl x5, x14, x12
-    .word 0x00160313  # addi x6, x12, 1
+    .word 0x00a29633  # sll x12, x5, x10
+    .word 0x00000693  # addi x13, x0, 0
+    .word 0x00a6d2b3  # srl x5, x13, x10
+    .word 0x00150313  # addi x6, x10, 1
     .word 0x006292b3  # sll x5, x5, x6
-    .word 0xfff68393  # addi x7, x13, -1
-    .word 0x00777333  # and x6, x14, x7
+    .word 0xfff60393  # addi x7, x12, -1
+    .word 0x0076f333  # and x6, x13, x7
     .word 0x0062e2b3  # or x5, x5, x6
-    .word 0x01f2f793  # andi x15, x5, 31
-    .word 0x00279a93  # slli x21, x15, 2
+    .word 0x01f2f713  # andi x14, x5, 31
+    .word 0x00271a93  # slli x21, x14, 2
     .word 0x002a8ab3  # add x21, x21, x2
-    .word 0x00d7e2b3  # or x5, x15, x13
-    .word 0x01f2f813  # andi x16, x5, 31
-    .word 0x00281b13  # slli x22, x16, 2
+    .word 0x00c762b3  # or x5, x14, x12
+    .word 0x01f2f793  # andi x15, x5, 31
+    .word 0x00279b13  # slli x22, x15, 2
     .word 0x002b0b33  # add x22, x22, x2
+    .word 0x009752b3  # srl x5, x14, x9
+    .word 0x0012f813  # andi x16, x5, 1
     .word 0x000aa883  # lw x17, 0(x21)
     .word 0x000b2903  # lw x18, 0(x22)
-    .word 0x00a7d2b3  # srl x5, x15, x10
-    .word 0x0012f293  # andi x5, x5, 1
-    .word 0x0012b993  # sltiu x19, x5, 1
-    .word 0x011932b3  # sltu x5, x18, x17
-    .word 0x413282b3  # sub x5, x5, x19
-    .word 0x005032b3  # sltu x5, x0, x5
-    .word 0x0128c333  # xor x6, x17, x18
-    .word 0xfff28293  # addi x5, x5, -1
-    .word 0x00537a33  # and x20, x6, x5
-    .word 0x0148c2b3  # xor x5, x17, x20
+    .word 0x0128c2b3  # xor x5, x17, x18
+    .word 0x01193333  # sltu x6, x18, x17
+    .word 0x01034333  # xor x6, x6, x16
+    .word 0x40600333  # sub x6, x0, x6
+    .word 0x0062f9b3  # and x19, x5, x6
+    .word 0x0138c2b3  # xor x5, x17, x19
     .word 0x005aa023  # sw x5, 0(x21)
-    .word 0x014942b3  # xor x5, x18, x20
+    .word 0x013942b3  # xor x5, x18, x19
     .word 0x005b2023  # sw x5, 0(x22)
-    .word 0x00170713  # addi x14, x14, 1
-    .word 0x01073293  # sltiu x5, x14, 16
-    .word 0xf80294e3  # bne x5, x0, -120
-    .word 0xfff70713  # addi x14, x14, -1
+    .word 0x00168693  # addi x13, x13, 1
+    .word 0x0106b293  # sltiu x5, x13, 16
+    .word 0xf80298e3  # bne x5, x0, -112
+    .word 0xfff68693  # addi x13, x13, -1
+    .word 0x00153a13  # sltiu x20, x10, 1
+    .word 0xfff50393  # addi x7, x10, -1
+    .word 0x414002b3  # sub x5, x0, x20
+    .word 0x0074c333  # xor x6, x9, x7
+    .word 0x00537333  # and x6, x6, x5
+    .word 0x0063c533  # xor x10, x7, x6
+    .word 0x014484b3  # add x9, x9, x20
     .word 0x00158593  # addi x11, x11, 1
-    .word 0x09012283  # lw x5, 144(x2)
-    .word 0x0055b2b3  # sltu x5, x11, x5
-    .word 0xf60290e3  # bne x5, x0, -160
+    .word 0x0105b293  # sltiu x5, x11, 16
+    .word 0xf4029ce3  # bne x5, x0, -168
     .word 0xfff58593  # addi x11, x11, -1
-    .word 0x0040006f  # jal x0, 4
-    .word 0x00148493  # addi x9, x9, 1
-    .word 0x0054b293  # sltiu x5, x9, 5
-    .word 0xf20294e3  # bne x5, x0, -216
-    .word 0xfff48493  # addi x9, x9, -1
     # the result
     .word 0x00000513  # addi x10, x0, 0
     # parameter 0: the array, back

@@ -1,4 +1,4 @@
-# sort_pairs_16: made by factc 1.0.0 function; 170 words, 208 bytes of stack, profile 1
+# sort_pairs_16: made by factc 1.0.0 function; 158 words, 208 bytes of stack, profile 1
     .option push
     .option norvc
     .option norelax
@@ -58,8 +58,6 @@ sort_pairs_16:
     .word 0x00430313  # addi x6, x6, 4
     .word 0xfe7298e3  # bne x5, x7, -16
     # the body
-    .word 0x00000493  # addi x9, x0, 0
-    .word 0x00000513  # addi x10, x0, 0
     .word 0x00000593  # addi x11, x0, 0
     .word 0x00000613  # addi x12, x0, 0
     .word 0x00000693  # addi x13, x0, 0
@@ -74,80 +72,70 @@ sort_pairs_16:
     .word 0x00000b13  # addi x22, x0, 0
     .word 0x00000b93  # addi x23, x0, 0
     .word 0x00000c13  # addi x24, x0, 0
-    .word 0x00279c93  # slli x25, x15, 2
+    .word 0x00271c93  # slli x25, x14, 2
     .word 0x002c8cb3  # add x25, x25, x2
-    .word 0x00281d13  # slli x26, x16, 2
+    .word 0x00279d13  # slli x26, x15, 2
     .word 0x002d0d33  # add x26, x26, x2
-    .word 0x00000493  # addi x9, x0, 0
-    .word 0x00148513  # addi x10, x9, 1
-    .word 0x08012623  # sw x0, 140(x2)
-    .word 0x08a12823  # sw x10, 144(x2)
-    .word 0x08c12303  # lw x6, 140(x2)
-    .word 0x09012283  # lw x5, 144(x2)
-    .word 0x005332b3  # sltu x5, x6, x5
-    .word 0x00029463  # bne x5, x0, 8
-    .word 0x0e80006f  # jal x0, 232
-    .word 0x00030593  # addi x11, x6, 0
-    .word 0x40b482b3  # sub x5, x9, x11
-    .word 0x0032f613  # andi x12, x5, 3
+    .word 0x00100493  # addi x9, x0, 1
+    .word 0x00000513  # addi x10, x0, 0
+    .word 0x00000593  # addi x11, x0, 0
     .word 0x00100293  # addi x5, x0, 1
-    .word 0x00c296b3  # sll x13, x5, x12
-    .word 0x00000713  # addi x14, x0, 0
-    .word 0x00c752b3  # srl x5, x14, x12
-    .word 0x00160313  # addi x6, x12, 1
+    .word 0x00a29633  # sll x12, x5, x10
+    .word 0x00000693  # addi x13, x0, 0
+    .word 0x00a6d2b3  # srl x5, x13, x10
+    .word 0x00150313  # addi x6, x10, 1
     .word 0x006292b3  # sll x5, x5, x6
-    .word 0xfff68393  # addi x7, x13, -1
-    .word 0x00777333  # and x6, x14, x7
+    .word 0xfff60393  # addi x7, x12, -1
+    .word 0x0076f333  # and x6, x13, x7
     .word 0x0062e2b3  # or x5, x5, x6
-    .word 0x00f2f793  # andi x15, x5, 15
-    .word 0x00279c93  # slli x25, x15, 2
+    .word 0x00f2f713  # andi x14, x5, 15
+    .word 0x00271c93  # slli x25, x14, 2
     .word 0x002c8cb3  # add x25, x25, x2
-    .word 0x00d7e2b3  # or x5, x15, x13
-    .word 0x00f2f813  # andi x16, x5, 15
-    .word 0x00281d13  # slli x26, x16, 2
+    .word 0x00c762b3  # or x5, x14, x12
+    .word 0x00f2f793  # andi x15, x5, 15
+    .word 0x00279d13  # slli x26, x15, 2
     .word 0x002d0d33  # add x26, x26, x2
-    .word 0x000ca883  # lw x17, 0(x25)
-    .word 0x000d2903  # lw x18, 0(x26)
-    .word 0x040ca983  # lw x19, 64(x25)
-    .word 0x040d2a03  # lw x20, 64(x26)
-    .word 0x011932b3  # sltu x5, x18, x17
-    .word 0x41190333  # sub x6, x18, x17
+    .word 0x000ca803  # lw x16, 0(x25)
+    .word 0x000d2883  # lw x17, 0(x26)
+    .word 0x040ca903  # lw x18, 64(x25)
+    .word 0x040d2983  # lw x19, 64(x26)
+    .word 0x0108b2b3  # sltu x5, x17, x16
+    .word 0x41088333  # sub x6, x17, x16
     .word 0x00133313  # sltiu x6, x6, 1
-    .word 0x013a33b3  # sltu x7, x20, x19
+    .word 0x0129b3b3  # sltu x7, x19, x18
     .word 0x00737333  # and x6, x6, x7
-    .word 0x0062eab3  # or x21, x5, x6
-    .word 0x00a7d2b3  # srl x5, x15, x10
-    .word 0x0012f293  # andi x5, x5, 1
-    .word 0x0012bb13  # sltiu x22, x5, 1
-    .word 0x416a82b3  # sub x5, x21, x22
-    .word 0x0012b293  # sltiu x5, x5, 1
-    .word 0x40500bb3  # sub x23, x0, x5
-    .word 0x0128c333  # xor x6, x17, x18
-    .word 0x006bfc33  # and x24, x23, x6
-    .word 0x0149c333  # xor x6, x19, x20
-    .word 0x006bfbb3  # and x23, x23, x6
-    .word 0x0188c2b3  # xor x5, x17, x24
+    .word 0x0062ea33  # or x20, x5, x6
+    .word 0x009752b3  # srl x5, x14, x9
+    .word 0x0012fa93  # andi x21, x5, 1
+    .word 0x015a42b3  # xor x5, x20, x21
+    .word 0x40500b33  # sub x22, x0, x5
+    .word 0x01184333  # xor x6, x16, x17
+    .word 0x006b7bb3  # and x23, x22, x6
+    .word 0x01394333  # xor x6, x18, x19
+    .word 0x006b7b33  # and x22, x22, x6
+    .word 0x017842b3  # xor x5, x16, x23
     .word 0x005ca023  # sw x5, 0(x25)
-    .word 0x018942b3  # xor x5, x18, x24
+    .word 0x0178c2b3  # xor x5, x17, x23
     .word 0x005d2023  # sw x5, 0(x26)
-    .word 0x0179c2b3  # xor x5, x19, x23
+    .word 0x016942b3  # xor x5, x18, x22
     .word 0x045ca023  # sw x5, 64(x25)
-    .word 0x017a42b3  # xor x5, x20, x23
+    .word 0x0169c2b3  # xor x5, x19, x22
     .word 0x045d2023  # sw x5, 64(x26)
-    .word 0x00170713  # addi x14, x14, 1
-    .word 0x00873293  # sltiu x5, x14, 8
-    .word 0xf4029ae3  # bne x5, x0, -172
-    .word 0xfff70713  # addi x14, x14, -1
+    .word 0x00168693  # addi x13, x13, 1
+    .word 0x0086b293  # sltiu x5, x13, 8
+    .word 0xf4029ee3  # bne x5, x0, -164
+    .word 0xfff68693  # addi x13, x13, -1
+    .word 0x00153c13  # sltiu x24, x10, 1
+    .word 0xfff50393  # addi x7, x10, -1
+    .word 0x418002b3  # sub x5, x0, x24
+    .word 0x0074c333  # xor x6, x9, x7
+    .word 0x00537333  # and x6, x6, x5
+    .word 0x0063c533  # xor x10, x7, x6
+    .word 0x018484b3  # add x9, x9, x24
     .word 0x00158593  # addi x11, x11, 1
-    .word 0x09012283  # lw x5, 144(x2)
-    .word 0x0055b2b3  # sltu x5, x11, x5
-    .word 0xf20296e3  # bne x5, x0, -212
+    .word 0x00a5b293  # sltiu x5, x11, 10
+    .word 0xf20292e3  # bne x5, x0, -220
     .word 0xfff58593  # addi x11, x11, -1
-    .word 0x0040006f  # jal x0, 4
-    .word 0x00148493  # addi x9, x9, 1
-    .word 0x0044b293  # sltiu x5, x9, 4
-    .word 0xee029ae3  # bne x5, x0, -268
-    .word 0xfff48493  # addi x9, x9, -1
     # the result
     .word 0x00000513  # addi x10, x0, 0
     # parameter 0: the array, back

@@ -1,4 +1,4 @@
-# speck64_decrypt: made by factc 1.0.0 function; 174 words, 160 bytes of stack, profile 1
+# speck64_decrypt: made by factc 1.0.0 function; 164 words, 64 bytes of stack, profile 1
     .option push
     .option norvc
     .option norelax
@@ -21,8 +21,8 @@ speck64_decrypt:
     .word 0x00a12423  # sw x10, 8(x2)
     .word 0x00b12623  # sw x11, 12(x2)
     # the frame's base
-    .word 0xf7010113  # addi x2, x2, -144
-    .cfi_def_cfa 2, 160
+    .word 0xfd010113  # addi x2, x2, -48
+    .cfi_def_cfa 2, 64
     # parameter 0: an array
     .word 0x00050293  # addi x5, x10, 0
     .word 0x00010313  # addi x6, x2, 0
@@ -43,47 +43,15 @@ speck64_decrypt:
     .word 0x00000713  # addi x14, x0, 0
     .word 0x00000793  # addi x15, x0, 0
     .word 0x00000813  # addi x16, x0, 0
-    .word 0x00279893  # slli x17, x15, 2
-    .word 0x002888b3  # add x17, x17, x2
     .word 0x01012403  # lw x8, 16(x2)
     .word 0x01412483  # lw x9, 20(x2)
     .word 0x00c12503  # lw x10, 12(x2)
     .word 0x00812583  # lw x11, 8(x2)
     .word 0x00412603  # lw x12, 4(x2)
     .word 0x00012683  # lw x13, 0(x2)
-    .word 0x00012c23  # sw x0, 24(x2)
-    .word 0x00012e23  # sw x0, 28(x2)
-    .word 0x02012023  # sw x0, 32(x2)
-    .word 0x02012223  # sw x0, 36(x2)
-    .word 0x02012423  # sw x0, 40(x2)
-    .word 0x02012623  # sw x0, 44(x2)
-    .word 0x02012823  # sw x0, 48(x2)
-    .word 0x02012a23  # sw x0, 52(x2)
-    .word 0x02012c23  # sw x0, 56(x2)
-    .word 0x02012e23  # sw x0, 60(x2)
-    .word 0x04012023  # sw x0, 64(x2)
-    .word 0x04012223  # sw x0, 68(x2)
-    .word 0x04012423  # sw x0, 72(x2)
-    .word 0x04012623  # sw x0, 76(x2)
-    .word 0x04012823  # sw x0, 80(x2)
-    .word 0x04012a23  # sw x0, 84(x2)
-    .word 0x04012c23  # sw x0, 88(x2)
-    .word 0x04012e23  # sw x0, 92(x2)
-    .word 0x06012023  # sw x0, 96(x2)
-    .word 0x06012223  # sw x0, 100(x2)
-    .word 0x06012423  # sw x0, 104(x2)
-    .word 0x06012623  # sw x0, 108(x2)
-    .word 0x06012823  # sw x0, 112(x2)
-    .word 0x06012a23  # sw x0, 116(x2)
-    .word 0x06012c23  # sw x0, 120(x2)
-    .word 0x06012e23  # sw x0, 124(x2)
-    .word 0x08012023  # sw x0, 128(x2)
     .word 0x00000713  # addi x14, x0, 0
     .word 0x00300293  # addi x5, x0, 3
     .word 0x02e287b3  # mul x15, x5, x14
-    .word 0x00279893  # slli x17, x15, 2
-    .word 0x002888b3  # add x17, x17, x2
-    .word 0x00a8ac23  # sw x10, 24(x17)
     .word 0x01859f13  # slli x30, x11, 24
     .word 0x0085d293  # srli x5, x11, 8
     .word 0x005f02b3  # add x5, x30, x5
@@ -93,7 +61,6 @@ speck64_decrypt:
     .word 0x01d55293  # srli x5, x10, 29
     .word 0x005f02b3  # add x5, x30, x5
     .word 0x00b2c533  # xor x10, x5, x11
-    .word 0x00a8ae23  # sw x10, 28(x17)
     .word 0x01861f13  # slli x30, x12, 24
     .word 0x00865293  # srli x5, x12, 8
     .word 0x005f02b3  # add x5, x30, x5
@@ -104,7 +71,6 @@ speck64_decrypt:
     .word 0x01d55293  # srli x5, x10, 29
     .word 0x005f02b3  # add x5, x30, x5
     .word 0x00c2c533  # xor x10, x5, x12
-    .word 0x02a8a023  # sw x10, 32(x17)
     .word 0x01869f13  # slli x30, x13, 24
     .word 0x0086d293  # srli x5, x13, 8
     .word 0x005f02b3  # add x5, x30, x5
@@ -117,62 +83,86 @@ speck64_decrypt:
     .word 0x00d2c533  # xor x10, x5, x13
     .word 0x00170713  # addi x14, x14, 1
     .word 0x00973293  # sltiu x5, x14, 9
-    .word 0xf60294e3  # bne x5, x0, -152
+    .word 0xf6029ee3  # bne x5, x0, -132
     .word 0xfff70713  # addi x14, x14, -1
     .word 0x00000813  # addi x16, x0, 0
     .word 0x01800293  # addi x5, x0, 24
     .word 0x00300313  # addi x6, x0, 3
     .word 0x03030333  # mul x6, x6, x16
     .word 0x406287b3  # sub x15, x5, x6
-    .word 0x00279893  # slli x17, x15, 2
-    .word 0x002888b3  # add x17, x17, x2
+    .word 0x00d542b3  # xor x5, x10, x13
+    .word 0x01d29f13  # slli x30, x5, 29
+    .word 0x0032d513  # srli x10, x5, 3
+    .word 0x00af0533  # add x10, x30, x10
+    .word 0x00278313  # addi x6, x15, 2
+    .word 0x0066c2b3  # xor x5, x13, x6
+    .word 0x40a282b3  # sub x5, x5, x10
+    .word 0x00829f13  # slli x30, x5, 8
+    .word 0x0182d693  # srli x13, x5, 24
+    .word 0x00df06b3  # add x13, x30, x13
     .word 0x009442b3  # xor x5, x8, x9
     .word 0x01d29f13  # slli x30, x5, 29
     .word 0x0032d493  # srli x9, x5, 3
     .word 0x009f04b3  # add x9, x30, x9
-    .word 0x0208a303  # lw x6, 32(x17)
-    .word 0x006442b3  # xor x5, x8, x6
+    .word 0x00a442b3  # xor x5, x8, x10
     .word 0x409282b3  # sub x5, x5, x9
     .word 0x00829f13  # slli x30, x5, 8
     .word 0x0182d413  # srli x8, x5, 24
     .word 0x008f0433  # add x8, x30, x8
+    .word 0x00c542b3  # xor x5, x10, x12
+    .word 0x01d29f13  # slli x30, x5, 29
+    .word 0x0032d513  # srli x10, x5, 3
+    .word 0x00af0533  # add x10, x30, x10
+    .word 0x00178313  # addi x6, x15, 1
+    .word 0x006642b3  # xor x5, x12, x6
+    .word 0x40a282b3  # sub x5, x5, x10
+    .word 0x00829f13  # slli x30, x5, 8
+    .word 0x0182d613  # srli x12, x5, 24
+    .word 0x00cf0633  # add x12, x30, x12
     .word 0x009442b3  # xor x5, x8, x9
     .word 0x01d29f13  # slli x30, x5, 29
     .word 0x0032d493  # srli x9, x5, 3
     .word 0x009f04b3  # add x9, x30, x9
-    .word 0x01c8a303  # lw x6, 28(x17)
-    .word 0x006442b3  # xor x5, x8, x6
+    .word 0x00a442b3  # xor x5, x8, x10
     .word 0x409282b3  # sub x5, x5, x9
     .word 0x00829f13  # slli x30, x5, 8
     .word 0x0182d413  # srli x8, x5, 24
     .word 0x008f0433  # add x8, x30, x8
+    .word 0x00b542b3  # xor x5, x10, x11
+    .word 0x01d29f13  # slli x30, x5, 29
+    .word 0x0032d513  # srli x10, x5, 3
+    .word 0x00af0533  # add x10, x30, x10
+    .word 0x00f5c2b3  # xor x5, x11, x15
+    .word 0x40a282b3  # sub x5, x5, x10
+    .word 0x00829f13  # slli x30, x5, 8
+    .word 0x0182d593  # srli x11, x5, 24
+    .word 0x00bf05b3  # add x11, x30, x11
     .word 0x009442b3  # xor x5, x8, x9
     .word 0x01d29f13  # slli x30, x5, 29
     .word 0x0032d493  # srli x9, x5, 3
     .word 0x009f04b3  # add x9, x30, x9
-    .word 0x0188a303  # lw x6, 24(x17)
-    .word 0x006442b3  # xor x5, x8, x6
+    .word 0x00a442b3  # xor x5, x8, x10
     .word 0x409282b3  # sub x5, x5, x9
     .word 0x00829f13  # slli x30, x5, 8
     .word 0x0182d413  # srli x8, x5, 24
     .word 0x008f0433  # add x8, x30, x8
     .word 0x00180813  # addi x16, x16, 1
     .word 0x00983293  # sltiu x5, x16, 9
-    .word 0xf60294e3  # bne x5, x0, -152
+    .word 0xf00294e3  # bne x5, x0, -248
     .word 0xfff80813  # addi x16, x16, -1
     .word 0x00812823  # sw x8, 16(x2)
     .word 0x00912a23  # sw x9, 20(x2)
     # the result
     .word 0x00000513  # addi x10, x0, 0
     # parameter 1: the array, back
-    .word 0x09c12283  # lw x5, 156(x2)
+    .word 0x03c12283  # lw x5, 60(x2)
     .word 0x01010313  # addi x6, x2, 16
     .word 0x00032e03  # lw x28, 0(x6)
     .word 0x01c2a023  # sw x28, 0(x5)
     .word 0x00432e03  # lw x28, 4(x6)
     .word 0x01c2a223  # sw x28, 4(x5)
     # above the frame
-    .word 0x09010293  # addi x5, x2, 144
+    .word 0x03010293  # addi x5, x2, 48
     # the caller's registers
     .word 0x0002a403  # lw x8, 0(x5)
     .cfi_restore 8

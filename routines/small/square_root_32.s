@@ -1,4 +1,4 @@
-# square_root_32: made by factc 1.0.0 function; 63 words, 48 bytes of stack, profile 1
+# square_root_32: made by factc 1.0.0 function; 54 words, 32 bytes of stack, profile 1
     .option push
     .option norvc
     .option norelax
@@ -19,49 +19,38 @@ square_root_32:
     .cfi_offset 9, -12
     # arguments that are needed behind the body
     # the frame's base
-    .word 0xfe010113  # addi x2, x2, -32
-    .cfi_def_cfa 2, 48
-    # the frame's word at 8, zeroed
-    .word 0x00012423  # sw x0, 8(x2)
-    # the frame's word at 12, zeroed
-    .word 0x00012623  # sw x0, 12(x2)
+    .word 0xff010113  # addi x2, x2, -16
+    .cfi_def_cfa 2, 32
     # parameter 0: a word
     .word 0x00a12023  # sw x10, 0(x2)
     # the body
     .word 0x00012403  # lw x8, 0(x2)
-    .word 0x00000593  # addi x11, x0, 0
     .word 0x00000613  # addi x12, x0, 0
     .word 0x00000693  # addi x13, x0, 0
-    .word 0x00812783  # lw x15, 8(x2)
-    .word 0x40000737  # lui x14, 0x40000
-    .word 0x00070713  # addi x14, x14, 0
+    .word 0x00000713  # addi x14, x0, 0
     .word 0x00040493  # addi x9, x8, 0
     .word 0x00000513  # addi x10, x0, 0
-    .word 0x00000593  # addi x11, x0, 0
-    .word 0x00159313  # slli x6, x11, 1
-    .word 0x00675633  # srl x12, x14, x6
-    .word 0x00c506b3  # add x13, x10, x12
-    .word 0x00155513  # srli x10, x10, 1
+    .word 0x400005b7  # lui x11, 0x40000
+    .word 0x00058593  # addi x11, x11, 0
+    .word 0x00000613  # addi x12, x0, 0
+    .word 0x00b506b3  # add x13, x10, x11
     .word 0x00d4b2b3  # sltu x5, x9, x13
-    .word 0x0012b293  # sltiu x5, x5, 1
-    .word 0x405007b3  # sub x15, x0, x5
-    .word 0x40d482b3  # sub x5, x9, x13
-    .word 0x0092c2b3  # xor x5, x5, x9
-    .word 0x00f2f2b3  # and x5, x5, x15
-    .word 0x0054c4b3  # xor x9, x9, x5
-    .word 0x00c502b3  # add x5, x10, x12
-    .word 0x00a2c2b3  # xor x5, x5, x10
-    .word 0x00f2f2b3  # and x5, x5, x15
-    .word 0x00554533  # xor x10, x10, x5
-    .word 0x00158593  # addi x11, x11, 1
-    .word 0x0105b293  # sltiu x5, x11, 16
-    .word 0xfa029ee3  # bne x5, x0, -68
-    .word 0xfff58593  # addi x11, x11, -1
+    .word 0xfff28713  # addi x14, x5, -1
+    .word 0x00e6f333  # and x6, x13, x14
+    .word 0x406484b3  # sub x9, x9, x6
+    .word 0x00155293  # srli x5, x10, 1
+    .word 0x00e5f333  # and x6, x11, x14
+    .word 0x00628533  # add x10, x5, x6
+    .word 0x0025d593  # srli x11, x11, 2
+    .word 0x00160613  # addi x12, x12, 1
+    .word 0x01063293  # sltiu x5, x12, 16
+    .word 0xfc029ae3  # bne x5, x0, -44
+    .word 0xfff60613  # addi x12, x12, -1
     .word 0x00a12223  # sw x10, 4(x2)
     # the result
     .word 0x00412503  # lw x10, 4(x2)
     # above the frame
-    .word 0x02010293  # addi x5, x2, 32
+    .word 0x01010293  # addi x5, x2, 16
     # the caller's registers
     .word 0x0002a403  # lw x8, 0(x5)
     .cfi_restore 8

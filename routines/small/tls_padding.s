@@ -1,4 +1,4 @@
-# tls_padding: made by factc 1.0.0 function; 73 words, 304 bytes of stack, profile 1
+# tls_padding: made by factc 1.0.0 function; 72 words, 304 bytes of stack, profile 1
     .option push
     .option norvc
     .option norelax
@@ -35,25 +35,24 @@ tls_padding:
     # the body
     .word 0x10012483  # lw x9, 256(x2)
     .word 0x10412503  # lw x10, 260(x2)
-    .word 0x00000713  # addi x14, x0, 0
+    .word 0x00000793  # addi x15, x0, 0
     .word 0x0ff14583  # lbu x11, 255(x2)
     .word 0x00158613  # addi x12, x11, 1
     .word 0x00000693  # addi x13, x0, 0
-    .word 0x00000713  # addi x14, x0, 0
-    .word 0x0ff00313  # addi x6, x0, 255
-    .word 0x40e30333  # sub x6, x6, x14
-    .word 0x00230333  # add x6, x6, x2
+    .word 0x0ff00293  # addi x5, x0, 255
+    .word 0x40c28733  # sub x14, x5, x12
+    .word 0x00000793  # addi x15, x0, 0
+    .word 0x00278333  # add x6, x15, x2
     .word 0x00034303  # lbu x6, 0(x6)
     .word 0x00b34333  # xor x6, x6, x11
-    .word 0x00c733b3  # sltu x7, x14, x12
-    .word 0x407003b3  # sub x7, x0, x7
-    .word 0x0ff3f393  # andi x7, x7, 255
+    .word 0x00875393  # srli x7, x14, 8
     .word 0x00737333  # and x6, x6, x7
     .word 0x0066e6b3  # or x13, x13, x6
-    .word 0x00170713  # addi x14, x14, 1
-    .word 0x10073293  # sltiu x5, x14, 256
-    .word 0xfc0298e3  # bne x5, x0, -48
     .word 0xfff70713  # addi x14, x14, -1
+    .word 0x00178793  # addi x15, x15, 1
+    .word 0x1007b293  # sltiu x5, x15, 256
+    .word 0xfc029ee3  # bne x5, x0, -36
+    .word 0xfff78793  # addi x15, x15, -1
     .word 0x00a4b2b3  # sltu x5, x9, x10
     .word 0x00000313  # addi x6, x0, 0
     .word 0x40a483b3  # sub x7, x9, x10

@@ -6,7 +6,7 @@
 #define FACT_x25519_H
 #include <stdbool.h>
 #include <stdint.h>
-#define x25519_STACK_BYTES 1424
+#define x25519_STACK_BYTES 1344
 #ifdef __cplusplus
 extern "C" {
 #endif
