@@ -1,4 +1,4 @@
-# compare_64: made by factc 1.0.0 function; 73 words, 48 bytes of stack, profile 1
+# compare_64: made by factc 1.0.0 function; 74 words, 48 bytes of stack, profile 1
     .option push
     .option norvc
     .option norelax
@@ -62,8 +62,9 @@ compare_64:
     .word 0x0062e533  # or x10, x5, x6
     .word 0x0ff4f293  # andi x5, x9, 255
     .word 0x0ff57313  # andi x6, x10, 255
-    .word 0x00131313  # slli x6, x6, 1
-    .word 0x0ff37313  # andi x6, x6, 255
+    .word 0x006282b3  # add x5, x5, x6
+    .word 0x0ff2f293  # andi x5, x5, 255
+    .word 0x0ff57313  # andi x6, x10, 255
     .word 0x006282b3  # add x5, x5, x6
     .word 0x0ff2f293  # andi x5, x5, 255
     .word 0x00512823  # sw x5, 16(x2)
