@@ -1,7 +1,8 @@
 -- The homes and mirrors of optimised code fit its program, whichever words are chosen.
 use Rattle.std.proofs.Common.{◌≡◌, ℕ, zero, suc, ◌+◌, ◌<◌, ◌≤◌, ◌&&◌, Bool, true, false, cond, nat_lt, List, [], ◌∷◌}
 use Rattle.std.proofs.Common.{drop, length, length-append, Option, None, Some, slice_get, take, unwrap_or, refl, ap}
-use Rattle.std.proofs.Common.{sym, ◌∙◌, arith}
+use Rattle.std.proofs.Common.{sym, ◌∙◌, ◌-◌, ◌⊎◌, inl, inr, arith}
+use Rattle.std.proofs.lemmas.Bool.{ltb-true, ltb-false}
 use Rattle.codegen.proofs.Choices.{of_choice}
 use Rattle.codegen.proofs.Language.{FlatVariable, StraightProgram}
 use Rattle.codegen.proofs.Logic.{nat_tests, none-some, same_Some}
@@ -13,8 +14,8 @@ use Rattle.codegen.proofs.expression_code_lemmas.WorkRegisters.{when_some}
 use Rattle.codegen.proofs.ReadControls.{all_read_kept}
 use Rattle.codegen.proofs.WeightLengths.{mirror_weights_length, word_weights_length}
 use Rattle.codegen.specs.private.Homes.{all_weights_of, gets_home, home_after, home_at, homes_from, is_chosen}
-use Rattle.codegen.specs.private.Homes.{is_no_array, is_wanted, is_word, mirror_in, mirrors_from, registers_behind}
-use Rattle.codegen.specs.private.Homes.{temporary_registers, word_homes}
+use Rattle.codegen.specs.private.Homes.{is_no_array, is_wanted, is_word, mirror_in, mirrors_from, register_at}
+use Rattle.codegen.specs.private.Homes.{registers_behind, temporary_registers, word_homes}
 use Rattle.codegen.specs.private.MirrorUses.{mirror_kind, mirror_weights_of, Uses, uses_of}
 use Rattle.codegen.specs.private.Uses.{word_weights_of}
 
@@ -22,65 +23,123 @@ left_by : (wanted : Bool) (n : ℕ) → (wanted && nat_lt n 28) ≡ true → n <
 left_by true n h = grind (arith, nat_tests, h)
 left_by false n h = absurd cc
 
--- a home that is given is the next register
-some_at : (wanted : Bool) (n home : ℕ) → home_at wanted n ≡ Some home
-    → (n ≡ home) × (home_after wanted n ≡ n + 1) × (n < 28)
-some_at wanted n home is =
-    let both = when_some (gets_home wanted n) (Some n) home is in
-    (same_Some n home both.1, ap (λ b. cond b (n + 1) n) both.0, left_by wanted n both.0)
+-- a home that is given is the register of the next number
+some_at : (start : ℕ) (wanted : Bool) (n home : ℕ) → home_at start wanted n ≡ Some home
+    → (home ≡ register_at start n) × (home_after wanted n ≡ n + 1) × (n < 28)
+some_at start wanted n home is =
+    let both = when_some (gets_home wanted n) (Some (register_at start n)) home is in (
+      sym (same_Some (register_at start n) home both.1),
+      ap (λ b. cond b (n + 1) n) both.0,
+      left_by wanted n both.0,
+    )
 
 after_least : (wanted : Bool) (n : ℕ) → n ≤ home_after wanted n
 after_least wanted n = of_choice (λ m. n ≤ m) (gets_home wanted n) (omega arith) (omega arith)
 
--- of the word i and those behind it, so many, the first of them the register n
-module _ (wanted : ℕ → Bool) where
-  allowed : (count i n x home : ℕ) → home_of (homes_from wanted i n count) x ≡ Some home → (n ≤ home) × (home < 28)
+-- The registers in the order in which they are given.
+
+module _ (start : ℕ) (behind : 8 ≤ start) where
+  -- one behind x9, or one that comes last
+  abbrev IsGiven : ℕ → ℕ → Type 0
+  IsGiven n r = ((r ≡ n + (10 - start)) × (r < 28)) ⊎ ((r ≡ n - 18) × (28 ≤ n + (10 - start)))
+
+  is_given : (n : ℕ) → IsGiven n (register_at start n)
+  is_given n = by_test (nat_lt (n + (10 - start)) 28) refl
+    where
+      by_test : (b : Bool) → nat_lt (n + (10 - start)) 28 ≡ b → IsGiven n (cond b (n + (10 - start)) (n - 18))
+      by_test true e = inl (refl, ltb-true (n + (10 - start)) 28 e)
+      by_test false e = inr (refl, ltb-false (n + (10 - start)) 28 e)
+
+  register_within : (n : ℕ) → start ≤ n → n < 28 → (start ≤ register_at start n) × (register_at start n < 28)
+  register_within n least most =
+      elim (is_given n) [
+        | inl later ↦ (omega (arith, behind, least, later.0), later.1)
+        | inr last ↦ (omega (arith, behind, least, most, last.0, last.1), omega (arith, most, last.0))
+      ]
+
+  register_alone : (n m : ℕ) → start ≤ n → n < 28 → start ≤ m → m < 28 → register_at start n ≡ register_at start m
+      → n ≡ m
+  register_alone n m least most least' most' same =
+      elim (is_given n) [
+        | inl one ↦ elim (is_given m) [
+          | inl other ↦ omega (arith, one.0, other.0, same)
+          | inr other ↦ absurd (omega (arith, behind, least, most', one.0, other.0, other.1, same))
+        ]
+        | inr one ↦ elim (is_given m) [
+          | inl other ↦ absurd (omega (arith, behind, least', most, one.0, one.1, other.0, same))
+          | inr other ↦ omega (arith, behind, least, least', one.0, one.1, other.0, other.1, same)
+        ]
+      ]
+
+-- a register is that of a number from n on
+record IsOfNumber (start n home : ℕ) : Type 0 where
+  number : ℕ
+  least : n ≤ number
+  below : number < 28
+  is : home ≡ register_at start number
+
+-- of the word i and those behind it, so many, the first of them that of the number n
+module _ (start : ℕ) (wanted : ℕ → Bool) where
+  allowed : (count i n x home : ℕ) → home_of (homes_from start wanted i n count) x ≡ Some home
+      → IsOfNumber start n home
   allowed zero i n x home is = absurd (none-some home is)
   allowed (suc count) i n zero home is =
-      let here = some_at (wanted i) n home is in
-      (omega (arith, here.0), omega (arith, here.0, here.2))
+      let here = some_at start (wanted i) n home is in
+      record { number = n; least = omega arith; below = here.2; is = here.0 }
   allowed (suc count) i n (suc x) home is =
       let rest = allowed count (i + 1) (home_after (wanted i) n) x home is in
-      (omega (arith, rest.0, after_least (wanted i) n), rest.1)
+      record {
+        number = rest.number;
+        least = omega (arith, rest.least, after_least (wanted i) n);
+        below = rest.below;
+        is = rest.is;
+      }
 
-  apart : (count i n x y home : ℕ) → home_of (homes_from wanted i n count) x ≡ Some home
-      → home_of (homes_from wanted i n count) y ≡ Some home → x ≡ y
-  apart zero i n x y home is other = absurd (none-some home is)
-  apart (suc count) i n zero zero home is other = refl
-  apart (suc count) i n zero (suc y) home is other =
-      let here = some_at (wanted i) n home is in
+  apart : 8 ≤ start → (count i n x y home : ℕ) → start ≤ n
+      → home_of (homes_from start wanted i n count) x ≡ Some home
+      → home_of (homes_from start wanted i n count) y ≡ Some home → x ≡ y
+  apart behind zero i n x y home least is other = absurd (none-some home is)
+  apart behind (suc count) i n zero zero home least is other = refl
+  apart behind (suc count) i n zero (suc y) home least is other =
+      let here = some_at start (wanted i) n home is in
       let rest = allowed count (i + 1) (home_after (wanted i) n) y home other in
-      absurd (omega (arith, here.0, here.1, rest.0))
-  apart (suc count) i n (suc x) zero home is other =
-      let here = some_at (wanted i) n home other in
+      let same = register_alone start behind n rest.number least here.2 (omega (arith, least, here.1, rest.least))
+      rest.below (sym here.0 ∙ rest.is) in
+      absurd (omega (arith, here.1, rest.least, same))
+  apart behind (suc count) i n (suc x) zero home least is other =
+      let here = some_at start (wanted i) n home other in
       let rest = allowed count (i + 1) (home_after (wanted i) n) x home is in
-      absurd (omega (arith, here.0, here.1, rest.0))
-  apart (suc count) i n (suc x) (suc y) home is other =
-      ap suc (apart count (i + 1) (home_after (wanted i) n) x y home is other)
+      let same = register_alone start behind n rest.number least here.2 (omega (arith, least, here.1, rest.least))
+      rest.below (sym here.0 ∙ rest.is) in
+      absurd (omega (arith, here.1, rest.least, same))
+  apart behind (suc count) i n (suc x) (suc y) home least is other =
+      ap suc (apart behind count (i + 1) (home_after (wanted i) n) x y home
+      (omega (arith, least, after_least (wanted i) n)) is other)
 
   -- what is not wanted has none
-  unwanted : (count i n x : ℕ) → wanted (i + x) ≡ false → home_of (homes_from wanted i n count) x ≡ None
+  unwanted : (count i n x : ℕ) → wanted (i + x) ≡ false → home_of (homes_from start wanted i n count) x ≡ None
   unwanted zero i n x not = refl
   unwanted (suc count) i n zero not =
       let here : i ≡ i + 0 = omega arith in
-      ap (λ b. home_at b n) (ap wanted here ∙ not)
+      ap (λ b. home_at start b n) (ap wanted here ∙ not)
   unwanted (suc count) i n (suc x) not =
       let next : i + 1 + x ≡ i + suc x = omega arith in
       unwanted count (i + 1) (home_after (wanted i) n) x (ap wanted next ∙ not)
 
-  lengths : (count i n : ℕ) → length (homes_from wanted i n count) ≡ count
+  lengths : (count i n : ℕ) → length (homes_from start wanted i n count) ≡ count
   lengths zero i n = refl
   lengths (suc count) i n = ap suc (lengths count (i + 1) (home_after (wanted i) n))
 
-  counts : (count i n : ℕ) → n ≤ 28 → home_count (homes_from wanted i n count) + n ≤ 28
+  counts : (count i n : ℕ) → n ≤ 28 → home_count (homes_from start wanted i n count) + n ≤ 28
   counts zero i n few = omega (arith, few)
   counts (suc count) i n few =
       by_test (gets_home (wanted i) n) refl (counts count (i + 1) (home_after (wanted i) n))
     where
       by_test : (b : Bool) → gets_home (wanted i) n ≡ b
-          → (cond b (n + 1) n ≤ 28 → home_count (homes_from wanted (i + 1) (cond b (n + 1) n) count)
+          → (cond b (n + 1) n ≤ 28 → home_count (homes_from start wanted (i + 1) (cond b (n + 1) n) count)
           + cond b (n + 1) n ≤ 28)
-          → home_count (cond b (Some n) None ∷ homes_from wanted (i + 1) (cond b (n + 1) n) count) + n ≤ 28
+          → home_count (cond b (Some (register_at start n)) None
+          ∷ homes_from start wanted (i + 1) (cond b (n + 1) n) count) + n ≤ 28
       by_test true e rest = let less = left_by (wanted i) n e in omega (arith, rest (omega (arith, less)))
       by_test false e rest = rest few
 
@@ -98,7 +157,7 @@ registers_length first p =
     let weights = all_weights_of p in
     omega (
       arith,
-      lengths (is_wanted first p.declared weights) (length weights) 0 first,
+      lengths first (is_wanted first p.declared weights) (length weights) 0 first,
       length-append (word_weights_of p) (mirror_weights_of p),
       mirror_weights_length p,
     )
@@ -203,10 +262,14 @@ module _ (p : StraightProgram) where
       sym (behind_first words registers x) ∙ mirror_there (uses_of p) 0 (drop words registers) x mirror given
 
   in_range : (x home : ℕ) → home_of registers x ≡ Some home → (beginning ≤ home) × (home < 28)
-  in_range x home is = allowed wanted (length weights) 0 beginning x home is
+  in_range x home is =
+      let given = allowed beginning wanted (length weights) 0 beginning x home is in
+      let within = register_within beginning (omega arith) given.number given.least given.below in
+      (omega (arith, given.is, within.0), omega (arith, given.is, within.1))
 
   one_word : (x y home : ℕ) → home_of registers x ≡ Some home → home_of registers y ≡ Some home → x ≡ y
-  one_word x y home is other = apart wanted (length weights) 0 beginning x y home is other
+  one_word x y home is other =
+      apart beginning wanted (omega arith) (length weights) 0 beginning x y home (omega arith) is other
 
   mirror_within : (x : ℕ) (mirror : Mirror) → mirror_of (word_homes p) x ≡ Some mirror → x < length p.declared
   mirror_within x mirror is =
@@ -220,7 +283,7 @@ module _ (p : StraightProgram) where
       → home_of (word_homes p).homes x ≡ None
   no_array x d size known is =
       let here : 0 + x ≡ x = omega arith in
-      none_among_first words registers x (unwanted wanted (length weights) 0 beginning x
+      none_among_first words registers x (unwanted beginning wanted (length weights) 0 beginning x
       (ap wanted here ∙ array_unwanted beginning p.declared weights x d size known is))
 
   word_homes_allocated : IsAllocation p.declared (word_homes p)
@@ -254,7 +317,7 @@ module _ (p : StraightProgram) where
           arith,
           count_parts words registers,
           mirrors_count (uses_of p) 0 (drop words registers),
-          counts wanted (length weights) 0 beginning (omega arith),
+          counts beginning wanted (length weights) 0 beginning (omega arith),
         );
     read = all_read_kept p;
   }

@@ -107,6 +107,7 @@ pub fn program_extent(straight: &StraightCode<'_>) -> CodeExtent
 /// How many temporaries have registers in optimised code: the others are for words.
 pub fn temporary_registers(straight: &StraightCode<'_>) -> u32
     ensures count { result ≡ temporary_registers straight.now }
+    ensures some { 3 ≤ result }
     ensures few { result ≤ 16 }
 {
     (program_extent(straight).height + 1)

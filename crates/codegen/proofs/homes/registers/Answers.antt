@@ -5,11 +5,11 @@ use Rattle.codegen.specs.private.Homes.{all_weights_of, home_after, home_at, hom
 use Rattle.codegen.proofs.homes.registers.Goals as goal
 
 -- one more register
-one_more : (wanted : ℕ → Bool) (count number next after : ℕ) (old new : List (Option ℕ)) (here : Bool)
-    → number < count → here ≡ wanted number → new ≡ old ++ home_at here next ∷ [] → after ≡ home_after here next
-    → new ++ homes_from wanted (number + 1) after (count - (number + 1))
-    ≡ old ++ homes_from wanted number next (count - number)
-one_more wanted count number next after old new here less is pushed moved =
+one_more : (start : ℕ) (wanted : ℕ → Bool) (count number next after : ℕ) (old new : List (Option ℕ)) (here : Bool)
+    → number < count → here ≡ wanted number → new ≡ old ++ home_at start here next ∷ [] → after ≡ home_after here next
+    → new ++ homes_from start wanted (number + 1) after (count - (number + 1))
+    ≡ old ++ homes_from start wanted number next (count - number)
+one_more start wanted count number next after old new here less is pushed moved =
     let more : count - number ≡ suc (count - (number + 1)) = omega (arith, less) in
     rw (pushed, moved, is, more, append_assoc)
 
@@ -35,11 +35,12 @@ loop-number-preserved c =
     ) in
     record {
       made =
-          one_more wanted (length weights) l.number l.next c.home_after-next.result l.registers.items
+          one_more c.args.first wanted (length weights) l.number l.next c.home_after-next.result l.registers.items
           c.push.new.self.items c.is_wanted-wanted.result less is
           (c.in_ok-push.ensures.items ∙ ap (λ (h : Option ℕ). l.registers.items ++ h ∷ []) c.home_at.ensures)
           c.home_after-next.ensures.value
           ∙ l.invariant.made;
+      least = omega (arith, l.invariant.least, c.home_after-next.ensures.least);
       few = c.home_after-next.ensures.few;
       weights = c.in_ok-weights.ensures;
       left = l.invariant.left;
