@@ -20,17 +20,17 @@ use Rattle.codegen.proofs.SetRuns.{steps_of_result}
 use Rattle.codegen.proofs.Standing.{words_alone, body_words_before, placed_alone, leads_among, stand_placed, placed}
 use Rattle.codegen.proofs.program_logic_lemmas.StepLaws.{leads_alone, still_there}
 use Rattle.codegen.specs.program_logic.MachineSteps.{at_most, LeadsBy}
-use Rattle.codegen.proofs.FreshRuns.{ProgramEnded, program_runs}
+use Rattle.codegen.proofs.ProgramRuns.{ProgramEnded, program_runs}
 use Rattle.codegen.specs.private.Fresh.{starts_fresh}
-use Rattle.std.proofs.lemmas.Bool.{and_parts, ltb-true}
+use Rattle.std.proofs.lemmas.Bool.{and_parts, ltb-true, not-true}
 use Rattle.codegen.proofs.Slots.{Laid, laid_same}
 use Rattle.rv_code.specs.declared.instructions.Instr.TheVariants as instr
 use Rattle.rv_machine.specs.Machine as machine
 use Rattle.codegen.proofs.ImageLemmas.{first_laid, parameters_fit, room_frame}
-use Rattle.codegen.proofs.Slotted.{slotted_length, slotted_there, slotted_was}
+use Rattle.codegen.proofs.Slotted.{slotted_bare, slotted_length, slotted_there, slotted_was}
 use Rattle.codegen.proofs.Machine.{laid_out}
 use Rattle.codegen.proofs.Language.{numbers_in}
-use Rattle.std.proofs.Common.{◌<◌}
+use Rattle.std.proofs.Common.{◌<◌, nat_lt}
 
 -- the state that the value is taken in
 abbrev last_state : StraightProgram → StraightState → StraightState
@@ -87,12 +87,15 @@ module _ (a : Allocation) (p : StraightProgram) (room : HasRoom p) (fitting : Is
   unfolding body_code steps Finished
   body_runs =
       cheaper (omega (arith, room.worked, fitting.few))
-      (program_runs setting p.returned p.value room.typed.result (omega arith) p.body (starts_fresh p)
+      (program_runs setting p.returned p.value room.typed.result (omega arith) (starts_fresh p)
       (λ y on. omega (
         arith,
-        ltb-true y (length p.declared) (and_parts _ _ on).0,
+        ltb-true y (length p.declared) (and_parts _ _ (and_parts _ _ on).1).0,
         slotted_length (length p.parameters) a.homes 0 p.declared,
-      )) (λ y on. (and_parts _ _ on).1)
+      ))
+      (λ y home d on at known. slotted_bare (length p.parameters) a.homes p.declared y home d
+      (not-true (nat_lt y (length p.parameters)) (and_parts _ _ on).0) known at)
+      p.body (λ y on. (and_parts _ _ (and_parts _ _ on).1).1)
       (omega (arith, fitting.within, slotted_length (length p.parameters) a.homes 0 p.declared))
       room.typed.body fitting.read (omega arith) (omega arith)
       (omega (arith, length-append {A = Instr}, short, room.nodes)))

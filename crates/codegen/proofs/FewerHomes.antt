@@ -1,24 +1,24 @@
 -- The code of what does not name some variables is the same where these have no homes.
 use Rattle.std.proofs.Common.{◌≡◌, ℕ, suc, ◌+◌, ◌<◌, ◌≤◌, ◌==◌, ◌||◌, Bool, true, false, List, [], ◌∷◌, ◌++◌}
 use Rattle.std.proofs.Common.{length, Option, None, Some, refl, sym, ap, ap₂, ◌∙◌, arith, eq-eqb, if◌then◌else◌}
-use Rattle.std.proofs.Common.{is_some, slice_get, unwrap_or}
+use Rattle.std.proofs.Common.{is_some, not, slice_get, unwrap_or}
 use Rattle.std.proofs.lemmas.Option.{none-some}
-use Rattle.std.proofs.lemmas.Bool.{false_from_ne_true, or_parts, true≢false}
+use Rattle.std.proofs.lemmas.Bool.{false_from_ne_true, not-true, or_parts, true≢false}
 use Rattle.codegen.proofs.Choices.{of_choice, when_not}
 use Rattle.codegen.proofs.HomesBut.{homes_left}
-use Rattle.codegen.proofs.Language.{array, branch, first, FlatVariable, nothing, put, repeats, set, element_bytes}
-use Rattle.codegen.proofs.Language.{StraightBlock, StraightTree, take, TermTree}
+use Rattle.codegen.proofs.Language.{array, branch, first, FlatVariable, put, repeats, set, element_bytes}
+use Rattle.codegen.proofs.Language.{StraightTree, take, TermTree}
 use Rattle.codegen.proofs.Machine.{branching_code, condition_code, failing, home_count, operands_or, right_code, Frame}
-use Rattle.codegen.proofs.Machine.{right_register, test_of, test_or, Allocation, at_home, block_code, control_location}
+use Rattle.codegen.proofs.Machine.{right_register, test_of, test_or, Allocation, at_home, control_location}
 use Rattle.codegen.proofs.Machine.{home_of, InRegister, InSlot, into_code, Location, next_offset, put_element_code}
 use Rattle.codegen.proofs.Machine.{read_code, read_register, set_code, statement_code, temporaries_offset}
 use Rattle.codegen.proofs.Machine.{result_offset, assign_code, fill_code, home_of_term, result_code, taken_code}
 use Rattle.codegen.proofs.Machine.{unless_home, variable_location, variable_offset, kind_at, Instr}
 use Rattle.codegen.specs.private.Compared.{against_zero}
-use Rattle.codegen.specs.private.Fresh.{any_names, homes_but, names, names_in, names_in_any, names_in_result}
+use Rattle.codegen.specs.private.Fresh.{homes_but, names_in, names_in_any, names_in_result, passes}
 use Rattle.codegen.proofs.StoredValues.{stored_alike}
 use Rattle.codegen.specs.private.Emitted.{into_element_code, stored_value}
-use Rattle.codegen.specs.private.Loops.{any_sets, counting_home, loop_from, short_number}
+use Rattle.codegen.specs.private.Loops.{counting_home, loop_from, repeat_code, short_number}
 use Rattle.codegen.specs.expression_code.Allocation.{mirror_if, mirror_of, temporary, working_register}
 use Rattle.codegen.specs.declared.expression_code.allocation.Mirror.{Mirror}
 use Rattle.codegen.specs.declared.expression_code.emit.NearPlace.{NearPlace}
@@ -36,12 +36,11 @@ neither_of_three a b c h =
     let rest = or_parts b c first.1 in
     (first.0, rest.0, rest.1)
 
-pub neither_of_four : (a b c d : Bool) → (a || (b || (c || d))) ≡ false
-    → (a ≡ false) × (b ≡ false) × (c ≡ false) × (d ≡ false)
-neither_of_four a b c d h =
-    let first = or_parts a (b || (c || d)) h in
-    let rest = neither_of_three b c d first.1 in
-    (first.0, rest.0, rest.1, rest.2)
+-- a statement without others in it
+abbrev pub IsSimple : StraightTree → Type 0
+IsSimple (branch condition accepted otherwise) = ⊥
+IsSimple (repeats x low high body) = ⊥
+IsSimple s = Unit {0}
 
 -- registers given out so, but for the homes of some words
 abbrev pub but : Allocation → (ℕ → Bool) → Allocation
@@ -348,7 +347,7 @@ module _ (layout : Frame) (left_out : ℕ → Bool)
       ap₂ (test_or (failing operator) (against_zero 5)) (register_same 5 left one) (right_register_same right two)
   test_same e spares = ap against_zero (register_same 5 e spares)
 
-  branching_same : (condition : TermTree) (xs ys : List Instr) → Spares (λ y. names_in y condition)
+  pub branching_same : (condition : TermTree) (xs ys : List Instr) → Spares (λ y. names_in y condition)
       → branching_code fewer condition xs ys ≡ branching_code layout condition xs ys
   branching_same condition xs ys spares =
       simp (condition_same, test_same, read_same, register_same)
@@ -366,54 +365,46 @@ module _ (layout : Frame) (left_out : ℕ → Bool)
   loop_same next counter mirror low high body (Some home) None one two =
       rw (assign_same low next one, assign_same high (next + 4) two) refl
 
-  -- Statements.
+  pub repeat_same : (depth x : ℕ) (low high : TermTree) (is_set : Bool) (body : List Instr)
+      → Spares (λ y. x == y) → Spares (λ y. names_in y low) → Spares (λ y. names_in y high)
+      → repeat_code fewer depth x low high is_set body ≡ repeat_code layout depth x low high is_set body
+  repeat_same depth x low high is_set body own one two =
+      let next = next_offset layout depth in
+      ap (λ mirror. loop_from fewer next (variable_location declared b x) mirror low high body
+      (counting_home (variable_location declared b x) is_set body) (short_number high)) (follows_same x own)
+      ∙ ap
+      (λ l. loop_from fewer next l (mirror_code a x) low high body (counting_home l is_set body) (short_number high))
+      (location_same x own)
+      ∙ loop_same next (variable_location declared a x) (mirror_code a x) low high body
+      (counting_home (variable_location declared a x) is_set body) (short_number high) one two
 
-  mutual
-    pub statement_same : (depth : ℕ) (s : StraightTree) → Spares (λ y. names y s)
-        → statement_code fewer depth s ≡ statement_code layout depth s
-    statement_same depth (set within x value) spares =
-        let one = λ (y : ℕ) (out : left_out y ≡ true). (or_parts _ _ (spares y out)).0 in
-        let two = λ (y : ℕ) (out : left_out y ≡ true). (or_parts _ _ (spares y out)).1 in
-        ap₂ (λ (front back : List Instr). front ++ back)
-        (ap (λ l. set_code fewer within l value) (location_same x one)
-        ∙ set_same within (variable_location declared a x) value two)
-        (follows_same x one)
-    statement_same depth (array x size []) spares = refl
-    statement_same depth (array x size (e ∷ es)) spares =
-        fill_same (kind_at declared x) (variable_offset declared x)
-        (e ∷ es) (λ y out. (or_parts _ _ (spares y out)).1)
-    statement_same depth (put within place x size index value) spares =
-        let parts = λ (y : ℕ) (out : left_out y ≡ true). neither_of_three _ _ _ (spares y out) in
-        put_same within x index value (λ y out. (parts y out).1)
-        (λ y out. (parts y out).2)
-    statement_same depth (take c within condition) spares =
-        simp (read_same, register_same, control_same, taken_same)
-    statement_same depth (branch condition accepted otherwise) spares =
-        let parts = λ (y : ℕ) (out : left_out y ≡ true). neither_of_three _ _ _ (spares y out) in
-        ap₂ (branching_code fewer condition) (block_same depth accepted (λ y out. (parts y out).1))
-        (block_same depth otherwise (λ y out. (parts y out).2))
-        ∙ branching_same condition (block_code layout depth accepted)
-        (block_code layout depth otherwise) (λ y out. (parts y out).0)
-    statement_same depth (repeats x low high body) spares =
-        let parts = λ (y : ℕ) (out : left_out y ≡ true). neither_of_four _ _ _ _ (spares y out) in
-        let next = next_offset layout depth in
-        let own = block_code layout (depth + 1) body in
-        ap (λ mirror. loop_from fewer next (variable_location declared b x) mirror low high
-        (block_code fewer (depth + 1) body)
-        (counting_home (variable_location declared b x) (any_sets x body) (block_code fewer (depth + 1) body))
-        (short_number high)) (follows_same x (λ y out. (parts y out).0))
-        ∙ ap₂
-        (λ l (is : List Instr).
-        loop_from fewer next l (mirror_code a x) low high is (counting_home l (any_sets x body) is) (short_number high))
-        (location_same x (λ y out. (parts y out).0)) (block_same (depth + 1) body (λ y out. (parts y out).3))
-        ∙ loop_same next (variable_location declared a x) (mirror_code a x) low high own
-        (counting_home (variable_location declared a x) (any_sets x body) own) (short_number high)
-        (λ y out. (parts y out).1) (λ y out. (parts y out).2)
+  -- Statements without others in them.
 
-    pub block_same : (depth : ℕ) (s : StraightBlock) → Spares (λ y. any_names y s)
-        → block_code fewer depth s ≡ block_code layout depth s
-    block_same depth nothing spares = refl
-    block_same depth (first s rest) spares =
-        ap₂ (λ (front back : List Instr). front ++ back)
-        (statement_same depth s (λ y out. (or_parts _ _ (spares y out)).0))
-        (block_same depth rest (λ y out. (or_parts _ _ (spares y out)).1))
+  pub none_named : (named : ℕ → Bool) → ((y : ℕ) → left_out y ≡ true → not (named y) ≡ true) → Spares named
+  none_named named passed y out = not-true (named y) (passed y out)
+
+  pub statement_same : (depth : ℕ) (s : StraightTree) → IsSimple s → ((y : ℕ) → left_out y ≡ true → passes y s ≡ true)
+      → statement_code fewer depth s ≡ statement_code layout depth s
+  statement_same depth (set within x value) simple passed =
+      let spares = none_named (λ y. (x == y) || names_in y value) passed in
+      let one = λ (y : ℕ) (out : left_out y ≡ true). (or_parts _ _ (spares y out)).0 in
+      let two = λ (y : ℕ) (out : left_out y ≡ true). (or_parts _ _ (spares y out)).1 in
+      ap₂ (λ (front back : List Instr). front ++ back)
+      (ap (λ l. set_code fewer within l value) (location_same x one)
+      ∙ set_same within (variable_location declared a x) value two)
+      (follows_same x one)
+  statement_same depth (array x size []) simple passed = refl
+  statement_same depth (array x size (e ∷ es)) simple passed =
+      let spares = none_named (λ y. (x == y) || names_in_any y (e ∷ es)) passed in
+      fill_same (kind_at declared x) (variable_offset declared x)
+      (e ∷ es) (λ y out. (or_parts _ _ (spares y out)).1)
+  statement_same depth (put within place x size index value) simple passed =
+      let spares = none_named (λ y. (x == y) || (names_in y index || names_in y value)) passed in
+      let parts = λ (y : ℕ) (out : left_out y ≡ true). neither_of_three _ _ _ (spares y out) in
+      put_same within x index value (λ y out. (parts y out).1)
+      (λ y out. (parts y out).2)
+  statement_same depth (take c within condition) simple passed =
+      let spares = none_named (λ y. names_in y condition) passed in
+      simp (read_same 5 0 condition spares, register_same 5 condition spares, control_same, taken_same)
+  statement_same depth (branch condition accepted otherwise) simple passed = absurd simple
+  statement_same depth (repeats x low high body) simple passed = absurd simple

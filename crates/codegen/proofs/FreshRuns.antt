@@ -1,117 +1,50 @@
--- The code of a program whose variables need not all be at home at first: those that the first statement that names
--- them sets and does not read, and which nothing loads. Until then their slots count, as if they had no homes.
+-- The code of statements before which some variables are not at home: what reads one comes behind a statement that sets
+-- it.
 use Rattle.std.proofs.Common.{◌≡◌, ℕ, ◌+◌, ◌-◌, ◌*◌, ◌<◌, ◌≤◌, ◌==◌, ◌&&◌, ◌||◌, not, Bool, true, false, List, ◌++◌}
-use Rattle.std.proofs.Common.{length, length-append, append_assoc, Option, None, Some, slice_get, slice_index, refl}
-use Rattle.std.proofs.Common.{sym, ap, ◌∙◌, subst, arith, ne_eqb, if◌then◌else◌, eq-eqb, inl, inr}
-use Rattle.std.proofs.lemmas.Bool.{and_left, cases_Bool, not-true, or_from, true≢false}
+use Rattle.std.proofs.Common.{length, length-append, Option, None, Some, slice_get, refl}
+use Rattle.std.proofs.Common.{sym, ap, ◌∙◌, subst, arith, ne_eqb, eq-eqb}
+use Rattle.std.proofs.lemmas.Bool.{and_left, and_parts, not-true, or_from, true≢false}
+use Rattle.codegen.proofs.BranchLengths.{branching_spans}
+use Rattle.codegen.proofs.BranchRuns.{branching_runs}
 use Rattle.codegen.proofs.Choices.{of_choice}
-use Rattle.codegen.proofs.EntryRuns.{entry_runs}
-use Rattle.codegen.proofs.FewerHomes.{but, home_but, home_kept, home_was, homes_fewer, into_same, result_same}
-use Rattle.codegen.proofs.FewerHomes.{mirror_was, statement_same}
-use Rattle.codegen.proofs.Machine.{mirror_by, mirror_of, sum_of}
+use Rattle.codegen.proofs.FewerHomes.{branching_same, but, home_but, home_kept, into_same, IsSimple, neither_of_three}
+use Rattle.codegen.proofs.FewerHomes.{repeat_same, statement_same}
+use Rattle.codegen.proofs.LoopLengths.{repeat_spans}
+use Rattle.codegen.proofs.Machine.{AreNear, mirror_by, mirror_of, sum_of}
 use Rattle.codegen.proofs.Mirroring.{mirror_runs}
-use Rattle.codegen.proofs.Language.{element_bytes}
-use Rattle.codegen.proofs.Logic.{kept_by, kept_then, quiet}
-use Rattle.codegen.specs.private.Generated.{mirror_count, mirrors_code}
+use Rattle.codegen.proofs.RepeatRuns.{loops_run}
+use Rattle.codegen.proofs.Language.{element_bytes, labelled, Boolean, Public}
+use Rattle.codegen.proofs.Logic.{height, idle, kept_by, kept_then, quiet}
 use Rattle.codegen.specs.expression_code.Allocation.{mirror_if}
 use Rattle.std.proofs.Common.{ap₂, unwrap_or}
-use Rattle.codegen.proofs.Language.{after, after_all, AreTyped, block_work, first, FlatVariable, IsResult, IsSet}
-use Rattle.codegen.proofs.Language.{IsTyped, nothing, numbers_in, path_along, path_at, set, statement_work}
-use Rattle.codegen.proofs.Language.{StraightBlock, StraightState, StraightTree, TermTree, types_of, value_in}
-use Rattle.codegen.proofs.Language.{value_nodes, word_as, WordType}
-use Rattle.codegen.proofs.Logic.{After, along, as_code, base_of, Before, beside, bytes_of, cheaper, eqb-false, eqb-true}
-use Rattle.codegen.proofs.Logic.{IsOfKind, layout_of}
-use Rattle.codegen.proofs.Logic.{gives, HeldAt, home_beside, kept_less, mask_of, place_of, quietly, Ready, Runs, seq}
-use Rattle.codegen.proofs.Logic.{Setting, Steps, weaken}
-use Rattle.codegen.proofs.Machine.{Allocation, AllReadKept, at_home, block_code, depth_in, depth_in_all, entry_code}
-use Rattle.codegen.proofs.Machine.{far, height_in, height_in_all, height_of, home_count, home_of, InSlot, Instr}
-use Rattle.codegen.proofs.Machine.{number_at, ReadsKept, result_code, result_height, set_code, slots_to, statement_code}
-use Rattle.codegen.proofs.Machine.{variable_offset}
-use Rattle.codegen.proofs.SetRuns.{result_runs, steps_of_result}
-use Rattle.codegen.proofs.Arguments.{Left}
-use Rattle.codegen.proofs.Slots.{homed_runs, Laid, suits_fits}
+use Rattle.codegen.proofs.Language.{after, after_all, AreTyped, array, block_work, branch, first, IsSet, IsTyped}
+use Rattle.codegen.proofs.Language.{nothing, Path, path_along, path_at, put, repeats, set, statement_work, take}
+use Rattle.codegen.proofs.Language.{StraightBlock, StraightState, StraightTree, TermTree}
+use Rattle.codegen.proofs.Language.{value_in, word_as}
+use Rattle.codegen.proofs.Logic.{as_code, base_of, beside, cheaper, eqb-false, eqb-true, gives, home_beside}
+use Rattle.codegen.proofs.Logic.{kept_less, layout_of, Ready, Runs, seq, Setting, weaken}
+use Rattle.codegen.proofs.Machine.{Allocation, AllReadKept, at_home, block_code, depth_in, depth_in_all}
+use Rattle.codegen.proofs.Machine.{far, height_in, height_in_all, height_of, home_of, InSlot, Instr, ReadsKept}
+use Rattle.codegen.proofs.Machine.{set_code, slots_to, statement_code, variable_offset}
+use Rattle.codegen.proofs.SettingBut.{AreBare, as_before, fewer, in_all, in_fewer, laid_but, ready_alike, ready_left}
+use Rattle.codegen.proofs.SettingBut.{typed_as, typed_away, typed_before, typed_same, without}
+use Rattle.codegen.proofs.Slots.{Hidden, hidden_kept, hidden_then, homed_runs, StateShown}
+use Rattle.codegen.proofs.Slots.{suits_fits}
 use Rattle.codegen.proofs.StatementRuns.{statement_runs}
-use Rattle.codegen.specs.private.Fresh.{homes_but, is_fresh, names, names_in, names_in_result, sets_fresh}
-use Rattle.codegen.specs.expression_code.Allocation.{IsAllocation}
-use Rattle.codegen.proofs.program_logic_lemmas.StepLaws.{LeadsBy-weaken}
+use Rattle.codegen.specs.private.Fresh.{is_fresh, names_in, passes, sets_fresh}
+use Rattle.codegen.specs.private.Loops.{any_sets}
+use Rattle.codegen.proofs.HomeWords.{ready_at_home}
+use Rattle.codegen.proofs.TypedBut.{known_typed, own_typed, statement_typed, value_typed}
 use Rattle.rv_machine.specs.Machine as machine
-use Rattle.codegen.proofs.HomeWords.{AreLaid, with_homes, control_alike, ready_at_home}
-use Rattle.codegen.proofs.TypedBut.{but_at, but_kept, but_length, result_typed, statement_typed, typed_but}
-use Rattle.codegen.proofs.TypedBut.{value_typed}
-
--- Fewer homes.
-
--- what variables are typed as where some have no homes: those are as they are laid out
-abbrev pub typed_as : Setting → (ℕ → Bool) → List FlatVariable
-typed_as z out = typed_but out 0 z.laid z.declared
-
--- so are those that have no homes anyway
-typed_away : (z : Setting) (out : ℕ → Bool) (x : ℕ) (d : FlatVariable) → slice_get z.declared x ≡ Some d
-    → home_of z.allocation.homes x ≡ None → slice_get (typed_as z out) x ≡ Some d
-typed_away z out x d known away =
-    but_at out z.laid z.declared x z.as_many
-    ∙ of_choice (λ (o : Option FlatVariable). o ≡ Some d) (out x) (z.lies x d known away) known
-
--- what is so of a variable as it is laid out, and as it is typed, is so of it there
-typed_each : (z : Setting) (out : ℕ → Bool) (x : ℕ) (d : FlatVariable) (P : Type 0)
-    → slice_get (typed_as z out) x ≡ Some d → (out x ≡ true → slice_get z.laid x ≡ Some d → P)
-    → (out x ≡ false → slice_get z.declared x ≡ Some d → P) → P
-typed_each z out x d P known laid declared =
-    let at = sym (but_at out z.laid z.declared x z.as_many) ∙ known in
-    let choice = λ (b : Bool). if b then slice_get z.laid x else slice_get z.declared x in
-    elim (cases_Bool (out x)) [
-      | inl on ↦ laid on (ap choice (sym on) ∙ at)
-      | inr off ↦ declared off (ap choice (sym off) ∙ at)
-    ]
-
-pub allocated_but : (z : Setting) (out : ℕ → Bool) → IsAllocation (typed_as z out) (but z.allocation out)
-allocated_but z out =
-    let a = z.allocation in
-    record {
-      some = z.allocated.some;
-      few = z.allocated.few;
-      allowed = λ x home at. z.allocated.allowed x home (home_was a out x home at);
-      apart = λ x y home here there. z.allocated.apart x y home (home_was a out x home here)
-          (home_was a out y home there);
-      words = λ x d size known is.
-          typed_each z out x d (home_of (but a out).homes x ≡ None) known
-          (λ on laid. home_but a out x ∙ ap (λ b. if b then None else home_of a.homes x) on)
-          (λ off declared. home_kept a out x off ∙ z.allocated.words x d size declared is);
-      mirrored = λ x mirror is.
-          let m = z.allocated.mirrored x mirror (mirror_was a out x mirror is) in
-          (omega (arith, m.0, but_length out 0 z.laid z.declared), m.1, m.2);
-      mirror_apart = λ x y home mirror is at.
-          z.allocated.mirror_apart x y home mirror (mirror_was a out x mirror is) (home_was a out y home at);
-      mirrors_apart = λ x y one other is there. z.allocated.mirrors_apart x y one other (mirror_was a out x one is)
-          (mirror_was a out y other there);
-    }
-
-pub laid_but : (z : Setting) (out : ℕ → Bool) → AreLaid z.laid (typed_as z out) (but z.allocation out)
-laid_but z out = record {
-  allocated = allocated_but z out;
-  as_many = z.as_many ∙ sym (but_length out 0 z.laid z.declared);
-  lies = λ x d known away.
-      typed_each z out x d (slice_get z.laid x ≡ Some d) known
-      (λ on laid. laid)
-      (λ off declared. z.lies x d declared (sym (home_kept z.allocation out x off) ∙ away));
-}
-
-abbrev pub fewer : Setting → (ℕ → Bool) → Setting
-fewer z out = with_homes z (typed_as z out) (but z.allocation out) (laid_but z out)
-
--- a variable is none of those any more
-abbrev without : (ℕ → Bool) → ℕ → ℕ → Bool
-without out x y = not (y == x) && out y
-
--- Variables that are set first.
 
 both_true : (b c : Bool) → (not b && c) ≡ true → (b ≡ false) × (c ≡ true)
 both_true false true h = (refl, refl)
 both_true false false h = absurd (true≢false (sym h))
 both_true true c h = absurd (true≢false (sym h))
 
-two_ways : (a b c : Bool) → a ≡ false → (a || (not b && c)) ≡ true → (b ≡ false) × (c ≡ true)
-two_ways a b c off h = both_true b c (sym (ap (λ x. x || (not b && c)) off) ∙ h)
+-- what does not set one passes it
+passed : (a b c : Bool) → a ≡ false → (a || (b && c)) ≡ true → (b ≡ true) × (c ≡ true)
+passed a b c off h = and_parts b c (ap (λ x. x || (b && c)) (sym off) ∙ h)
 
 -- one that a statement sets so is not read there; one that it does not name is set so later
 not_read : (same read fresh : Bool) → ((same && not read) || (not (same || read) && fresh)) ≡ true → read ≡ false
@@ -129,329 +62,281 @@ module _ (z : Setting) where
   abbrev a : Allocation
   a = z.allocation
 
-  -- what is done with fewer homes
-  in_all : {n : ℕ} {steps : Steps} {is : List Instr} {P : Before} {Q : After} (out : ℕ → Bool)
-      → Runs (fewer z out) n steps is P Q → Runs z n steps is P Q
-  in_all out one = record {
-    placed_at = λ p placed.
-        let x = one.placed_at p placed in
-        record {
-          leak = x.leak;
-          runs = λ env s rest at fine fit.
-              let e = x.runs env s rest at fine fit in
-              record {
-                step_count = e.step_count;
-                end = e.end;
-                seen = e.seen;
-                leads =
-                    LeadsBy-weaken
-                    (λ t event u each. (record { regs = each.0.regs; beside = each.0.beside }, each.1)) e.leads;
-                within = e.within;
-                shown = e.shown;
-                at = e.at;
-                done = e.done;
-              };
-        };
-  }
-
-  -- Ready with other homes.
-
-  -- the same homes, and so the same mirrors
-  mirror_alike : (one other : ℕ → Bool) → ((y : ℕ) → home_of (but a one).homes y ≡ home_of (but a other).homes y)
-      → (y : ℕ) → mirror_of (but a one) y ≡ mirror_of (but a other) y
-  mirror_alike one other same y =
-      ap (λ (h : Option ℕ). mirror_if h (unwrap_or (slice_get a.mirrors y) None)) (same y)
-
-  -- the same homes, otherwise left out
-  ready_alike : (one other : ℕ → Bool) → ((y : ℕ) → home_of (but a one).homes y ≡ home_of (but a other).homes y)
-      → ((y : ℕ) → slice_get (typed_as z one) y ≡ slice_get (typed_as z other) y)
-      → (env : StraightState) (s : machine.State) → Ready (fewer z one) env s → Ready (fewer z other) env s
-  ready_alike one other same typed env s ready = record {
-    held = record { base = ready.held.base; data_there = ready.held.data_there };
-    fits = λ y d is. ready.fits y d (typed y ∙ is);
-    homes_there = λ y home d is at. ready.homes_there y home d (typed y ∙ is) (same y ∙ at);
-    variables_there = λ y d i is away below. ready.variables_there y d i (typed y ∙ is) (same y ∙ away) below;
-    controls_there = λ c below read. control_alike (fewer z other) (typed_as z one) (but a one) (laid_but z one) c
-        (mask_of (env.controls c)) s s (same (length z.laid + c)) (λ home at. refl) refl
-        (ready.controls_there c below read);
-    mirrors_there = λ y home mirror is at. ready.mirrors_there y home mirror (mirror_alike one other same y ∙ is)
-        (same y ∙ at);
-  }
-
-  -- another variable than the one that comes to its home is left out as before
-  as_before : (out : ℕ → Bool) (x y : ℕ) → (y == x) ≡ false
-      → home_of (but a out).homes y ≡ home_of (but a (without out x)).homes y
-  as_before out x y apart =
-      home_but a out y
-      ∙ (ap (λ b. if not b && out y then None else home_of a.homes y) (sym apart) ∙ sym (home_but a (without out x) y))
-
-  typed_before : (out : ℕ → Bool) (x y : ℕ) → (y == x) ≡ false
-      → slice_get (typed_as z out) y ≡ slice_get (typed_as z (without out x)) y
-  typed_before out x y apart =
-      but_at out z.laid z.declared y z.as_many
-      ∙ (ap (λ b. if not b && out y then slice_get z.laid y else slice_get z.declared y) (sym apart)
-      ∙ sym (but_at (without out x) z.laid z.declared y z.as_many))
-
-  -- what names none of those is typed so too
-  typed_same : (out : ℕ → Bool) (y : ℕ) → out y ≡ false → slice_get (typed_as z out) y ≡ slice_get z.declared y
-  typed_same out y off = but_kept out z.laid z.declared y z.as_many off
-
-  -- Statements.
-
   abbrev base : ℕ
   base = base_of z
 
-  abbrev code_of : StraightTree → List Instr
-  code_of s = statement_code (layout_of z) 0 s
+  abbrev code_of : ℕ → StraightTree → List Instr
+  code_of depth s = statement_code (layout_of z) depth s
+
+  -- what is left of a state behind a statement or a block: these are not at home, and the words of the loops around are
+  -- as they were
+  abbrev Made : ℕ → (ℕ → Bool) → (StraightState → StraightState) → StraightState → machine.State → machine.State
+      → Type 0
+  Made depth out made env s t = Ready (fewer z out) (made env) t × Hidden z depth s t
 
   -- what one statement makes of a state in which some variables are not at home yet
-  abbrev Steps_on : (ℕ → Bool) → (ℕ → Bool) → StraightTree → Type 0
-  Steps_on out rest s = Runs z (32 * statement_work z.counts s) (λ env. path_at env s) (code_of s)
-      (Ready (fewer z out)) (λ env s' t. Ready (fewer z rest) (after env s) t)
+  abbrev Steps_on : ℕ → (ℕ → Bool) → (ℕ → Bool) → StraightTree → Type 0
+  Steps_on depth out rest s = Runs z (32 * statement_work z.counts s) (λ env. path_at env s) (code_of depth s)
+      (Ready (fewer z out)) (Made depth rest (λ env. after env s))
 
-  -- a statement that names none of those
-  kept_runs : (out : ℕ → Bool) → ((y : ℕ) → out y ≡ true → y < length z.laid)
-      → (s : StraightTree) → ((y : ℕ) → out y ≡ true → names y s ≡ false)
-      → IsTyped z.code.profile z.declared z.controls s → ReadsKept a.unread s
-      → base + 4 * slots_to a.count (height_in s) ≤ z.size → depth_in s ≤ z.depths
-      → length (code_of s) < far → Steps_on out out s
-  kept_runs out variables s unnamed typed read room within few =
-      let same = statement_same (layout_of z) out variables 0 s unnamed in
-      as_code (sym same)
-      (gives (λ env s' t fine ready done. done.ready)
-      (in_all out
-      (statement_runs (fewer z out) 0 s
-      (statement_typed out z.code.profile z.declared (typed_as z out) (typed_same out) z.controls s typed unnamed)
-      read room (omega (arith, within)) (subst (λ (is : List Instr). length is < far) (sym same) few))))
+  module _ (depth : ℕ) where
+    -- a statement without others in it that passes them all
+    kept_runs : (out : ℕ → Bool) → ((y : ℕ) → out y ≡ true → y < length z.laid)
+        → (s : StraightTree) → IsSimple s → ((y : ℕ) → out y ≡ true → passes y s ≡ true)
+        → IsTyped z.code.profile z.declared z.controls s → ReadsKept a.unread s
+        → base + 4 * slots_to a.count (height_in s) ≤ z.size → depth + depth_in s ≤ z.depths
+        → length (code_of depth s) < far → Steps_on depth out out s
+    kept_runs out variables s simple free typed read room within few =
+        let same = statement_same (layout_of z) out variables depth s simple free in
+        as_code (sym same)
+        (gives (λ env s' t fine ready done. (done.ready, done.hidden))
+        (in_all z out
+        (statement_runs (fewer z out) depth s
+        (statement_typed out z.code.profile z.declared (typed_as z out) (typed_same z out) z.controls s simple typed free)
+        read room within (subst (λ (is : List Instr). length is < far) (sym same) few))))
 
-  -- one of those is set
-  module _ (out : ℕ → Bool) (variables : (y : ℕ) → out y ≡ true → y < length z.laid) (x : ℕ) (value : TermTree)
-      (typed : IsSet z.code.profile z.declared x value) (unread : (y : ℕ) → out y ≡ true → names_in y value ≡ false)
-      (room : base + 4 * slots_to a.count (height_of value) ≤ z.size) where
-    -- it has no home, or comes into it
-    fresh_runs : length (code_of (set None x value)) < far → (h : Option ℕ) → home_of a.homes x ≡ h
-        → Steps_on out (without out x) (set None x value)
-    fresh_runs few None away =
-        let rest = without out x in
-        weaken
-        (λ env s fine ready. ready_alike out rest (λ y. same_homes y (y == x) refl)
-        (λ y. same_types y (y == x) refl) env s ready)
-        (λ env s t fine ready done. done)
-        (kept_runs rest (λ y on. variables y (both_true (y == x) (out y) on).1) (set None x value)
-        (λ y on.
-        let both = both_true (y == x) (out y) on in
-        or_from (x == y) (names_in y value) (ne_eqb x y (λ e. eqb-false y x both.0 (sym e))) (unread y both.1))
-        (tt, typed) tt room (omega arith) few)
-      where
-        same_homes : (y : ℕ) (b : Bool) → (y == x) ≡ b
-            → home_of (but a out).homes y ≡ home_of (but a (without out x)).homes y
-        same_homes y true q =
-            let none_here : home_of a.homes y ≡ None = ap (λ n. home_of a.homes n) (eqb-true y x q) ∙ away in
-            let none_left : (left : ℕ → Bool) → home_of (but a left).homes y ≡ None =
-            λ left. home_but a left y ∙ of_choice (λ (h : Option ℕ). h ≡ None) (left y) refl none_here in
-            none_left out ∙ sym (none_left (without out x))
-        same_homes y false q = as_before out x y q
-
-        same_types : (y : ℕ) (b : Bool) → (y == x) ≡ b
-            → slice_get (typed_as z out) y ≡ slice_get (typed_as z (without out x)) y
-        same_types y true q =
-            let at = eqb-true y x q in
-            let known : slice_get z.declared y ≡ Some (word_as typed.word typed.mutable) =
-            ap (λ n. slice_get z.declared n) at ∙ typed.known in
-            let none_here : home_of a.homes y ≡ None = ap (λ n. home_of a.homes n) at ∙ away in
-            typed_away z out y (word_as typed.word typed.mutable) known none_here
-            ∙ sym (typed_away z (without out x) y (word_as typed.word typed.mutable) known none_here)
-        same_types y false q = typed_before out x y q
-    fresh_runs few (Some home) at =
-        let is = z.allocated.allowed x home at in
-        let suits = value_typed out z.code.profile z.declared (typed_as z out) (typed_same out) typed.word value
-        typed.suits unread in
-        let same = into_same (layout_of z) out variables home 0 value unread in
-        let left = without out x in
-        let off : left x ≡ false = ap (λ b. not b && out x) (eq-eqb x x refl) in
-        let here : home_of (but a left).homes x ≡ Some home = home_kept a left x off ∙ at in
-        let own : mirror_of (but a left) x ≡ mirror_of a x =
-        ap (λ (h : Option ℕ). mirror_if h (unwrap_or (slice_get a.mirrors x) None)) (home_kept a left x off) in
-        as_code
-        (ap₂ (λ (front back : List Instr). front ++ back)
-        (ap (λ h. set_code (layout_of z) None (at_home h (InSlot (variable_offset z.laid x))) value) at ∙ sym same)
-        (ap₂ mirror_by (sym (home_kept a left x off)) (sym own)))
-        (cheaper (omega arith)
-        (gives
-        (λ env s t fine ready done.
-        let m = done.middle in
-        let one = done.first in
-        let v = value_in env.variables value in
-        let fits = suits_fits z.code.profile (typed_as z out) typed.word value env.variables ready.fits suits in
-        let there : t.regs home ≡ v =
-        done.second.others home (λ e. omega (arith, is.1, e))
-        (λ mirror mirrored. (fewer z left).allocated.mirror_apart x x home mirror mirrored here) ∙ one.there in
-        ready_at_home (fewer z left) (typed_as z out) (but a out) (laid_but z out) refl refl x home v
-        typed.word typed.mutable (typed_same left x off ∙ typed.known) here
-        (λ y apart. as_before out x y (ne_eqb y x apart)) (λ y apart. typed_before out x y (ne_eqb y x apart)) fits
-        env s t ready
-        (record { base = done.second.held.base; data_there = done.second.held.data_there })
-        (kept_then z base s m t (kept_less z base (base + 4 * (0 - a.count)) s m (omega arith) one.kept)
-        (kept_by z base m t done.second.same)) there
-        (λ mirror mirrored. done.second.there home mirror mirrored here
-        ∙ ap (λ w. sum_of (element_bytes mirror.kind * w) z.frame) one.there)
-        (λ r other apart beside. done.second.others r (λ e. omega (arith, other.1, e)) beside
-        ∙ one.lower r (home_beside a.count 0 home r other.0 other.1 apart)))
-        (quiet (in_all out (homed_runs (fewer z out) home is suits.has_type room))
-        (in_all left (mirror_runs (fewer z left) x))
-        (λ env s t ready done. record { base = done.held.base; data_there = done.held.data_there }))))
-
-  -- Statements, and the result behind them.
-
-  -- what a program leaves in the end
-  pub record ProgramEnded (value : Option TermTree) (env : StraightState) (t : machine.State) : Type 0 where
-    pub held : HeldAt z t
-    pub arrays_held : (x : ℕ) (d : FlatVariable) (size : ℕ) → slice_get z.declared x ≡ Some d
-        → d.elements ≡ Some size → IsOfKind d (env.variables x)
-    pub arrays_there : (x : ℕ) (d : FlatVariable) (size i : ℕ) → slice_get z.declared x ≡ Some d
-        → d.elements ≡ Some size → i < numbers_in d.elements
-        → number_at t.bytes (bytes_of d) (z.frame + place_of z.laid x d i)
-        ≡ Some (slice_index (env.variables x) i)
-    pub left : Left z.frame z.laid value env.variables t.bytes
-
-  module _ (returned : Option WordType) (value : Option TermTree)
-      (typed_result : IsResult (types_of z.code.profile z.declared) returned value)
-      (room_result : base + 4 * slots_to a.count (result_height value) ≤ z.size) where
-    -- one statement is run, and these are not at home yet
-    record StatementRun (out : ℕ → Bool) (s : StraightTree) (rest : StraightBlock) : Type 0 where
-      left : ℕ → Bool
-      variables : (y : ℕ) → left y ≡ true → y < length z.laid
-      fresh : (y : ℕ) → left y ≡ true → is_fresh y rest value ≡ true
-      runs : Steps_on out left s
-
-    module _ (out : ℕ → Bool) (variables : (y : ℕ) → out y ≡ true → y < length z.laid) where
-      stepped_on : (s : StraightTree) (rest : StraightBlock)
-          → ((y : ℕ) → out y ≡ true → is_fresh y (first s rest) value ≡ true)
-          → ((y : ℕ) → out y ≡ true → sets_fresh y s ≡ false)
-          → IsTyped z.code.profile z.declared z.controls s → ReadsKept a.unread s
-          → base + 4 * slots_to a.count (height_in s) ≤ z.size → depth_in s ≤ z.depths
-          → length (code_of s) < far → StatementRun out s rest
-      stepped_on s rest fresh off typed read room within few =
-          let ways = λ (y : ℕ) (on : out y ≡ true). two_ways (sets_fresh y s) (names y s) (is_fresh y rest value)
-          (off y on) (fresh y on) in
-          record {
-            left = out;
-            variables = variables;
-            fresh = λ y on. (ways y on).1;
-            runs = kept_runs out variables s (λ y on. (ways y on).0) typed read room within few;
-          }
-
-      stepped : (s : StraightTree) (rest : StraightBlock)
-          → ((y : ℕ) → out y ≡ true → is_fresh y (first s rest) value ≡ true)
-          → IsTyped z.code.profile z.declared z.controls s → ReadsKept a.unread s
-          → base + 4 * slots_to a.count (height_in s) ≤ z.size → depth_in s ≤ z.depths
-          → length (code_of s) < far → StatementRun out s rest
-      stepped (set None x e) rest fresh typed read room within few = by_test (out x) refl
+    -- one of those is set
+    module _ (out : ℕ → Bool) (variables : (y : ℕ) → out y ≡ true → y < length z.laid) (x : ℕ) (value : TermTree)
+        (typed : IsSet z.code.profile z.declared x value) (unread : (y : ℕ) → out y ≡ true → names_in y value ≡ false)
+        (room : base + 4 * slots_to a.count (height_of value) ≤ z.size) (within : depth ≤ z.depths) where
+      -- it has no home, or comes into it
+      fresh_runs : length (code_of depth (set None x value)) < far → (h : Option ℕ) → home_of a.homes x ≡ h
+          → Steps_on depth out (without out x) (set None x value)
+      fresh_runs few None away =
+          let rest = without out x in
+          weaken
+          (λ env s fine ready. ready_alike z out rest (λ y. same_homes y (y == x) refl)
+          (λ y. same_types y (y == x) refl) env s ready)
+          (λ env s t fine ready done. done)
+          (kept_runs rest (λ y on. variables y (both_true (y == x) (out y) on).1) (set None x value) tt
+          (λ y on.
+          let both = both_true (y == x) (out y) on in
+          ap not (or_from (x == y) (names_in y value) (ne_eqb x y (λ e. eqb-false y x both.0 (sym e)))
+          (unread y both.1)))
+          (tt, typed) tt room (omega (arith, within)) few)
         where
-          by_test : (b : Bool) → out x ≡ b → StatementRun out (set None x e) rest
+          same_homes : (y : ℕ) (b : Bool) → (y == x) ≡ b
+              → home_of (but a out).homes y ≡ home_of (but a (without out x)).homes y
+          same_homes y true q =
+              let none_here : home_of a.homes y ≡ None = ap (λ n. home_of a.homes n) (eqb-true y x q) ∙ away in
+              let none_left : (left : ℕ → Bool) → home_of (but a left).homes y ≡ None =
+              λ left. home_but a left y ∙ of_choice (λ (h : Option ℕ). h ≡ None) (left y) refl none_here in
+              none_left out ∙ sym (none_left (without out x))
+          same_homes y false q = as_before z out x y q
+
+          same_types : (y : ℕ) (b : Bool) → (y == x) ≡ b
+              → slice_get (typed_as z out) y ≡ slice_get (typed_as z (without out x)) y
+          same_types y true q =
+              let at = eqb-true y x q in
+              let known : slice_get z.declared y ≡ Some (word_as typed.word typed.mutable) =
+              ap (λ n. slice_get z.declared n) at ∙ typed.known in
+              let none_here : home_of a.homes y ≡ None = ap (λ n. home_of a.homes n) at ∙ away in
+              typed_away z out y (word_as typed.word typed.mutable) known none_here
+              ∙ sym (typed_away z (without out x) y (word_as typed.word typed.mutable) known none_here)
+          same_types y false q = typed_before z out x y q
+      fresh_runs few (Some home) at =
+          let is = z.allocated.allowed x home at in
+          let suits = value_typed out z.code.profile z.declared (typed_as z out) (typed_same z out) typed.word value
+          typed.suits unread in
+          let same = into_same (layout_of z) out variables home 0 value unread in
+          let left = without out x in
+          let off : left x ≡ false = ap (λ b. not b && out x) (eq-eqb x x refl) in
+          let here : home_of (but a left).homes x ≡ Some home = home_kept a left x off ∙ at in
+          let own : mirror_of (but a left) x ≡ mirror_of a x =
+          ap (λ (h : Option ℕ). mirror_if h (unwrap_or (slice_get a.mirrors x) None)) (home_kept a left x off) in
+          as_code
+          (ap₂ (λ (front back : List Instr). front ++ back)
+          (ap (λ h. set_code (layout_of z) None (at_home h (InSlot (variable_offset z.laid x))) value) at ∙ sym same)
+          (ap₂ mirror_by (sym (home_kept a left x off)) (sym own)))
+          (cheaper (omega arith)
+          (gives
+          (λ env s t fine ready done.
+          let m = done.middle in
+          let one = done.first in
+          let v = value_in env.variables value in
+          let fits = suits_fits z.code.profile (typed_as z out) typed.word value env.variables ready.fits suits in
+          let there : t.regs home ≡ v =
+          done.second.others home (λ e. omega (arith, is.1, e))
+          (λ mirror mirrored. (fewer z left).allocated.mirror_apart x x home mirror mirrored here) ∙ one.there in
+          let kept = kept_then z base s m t (kept_less z base (base + 4 * (0 - a.count)) s m (omega arith) one.kept)
+          (kept_by z base m t done.second.same) in (
+            ready_at_home (fewer z left) (typed_as z out) (but a out) (laid_but z out) refl refl x home v
+                typed.word typed.mutable (typed_same z left x off ∙ typed.known) here
+                (λ y apart. as_before z out x y (ne_eqb y x apart)) (λ y apart. typed_before z out x y (ne_eqb y x apart))
+                fits env s t ready
+                (record { base = done.second.held.base; data_there = done.second.held.data_there })
+                kept there
+                (λ mirror mirrored. done.second.there home mirror mirrored here
+                ∙ ap (λ w. sum_of (element_bytes mirror.kind * w) z.frame) one.there)
+                (λ r other apart beside. done.second.others r (λ e. omega (arith, other.1, e)) beside
+                ∙ one.lower r (home_beside a.count 0 home r other.0 other.1 apart)),
+            hidden_kept z depth s t within kept,
+          ))
+          (quiet (in_all z out (homed_runs (fewer z out) home is suits.has_type room))
+          (in_all z left (mirror_runs (fewer z left) x))
+          (λ env s t ready done. record { base = done.held.base; data_there = done.held.data_there }))))
+
+  -- Statements, and others in them. These and none but these are not at home at first.
+  module _ (whole : ℕ → Bool) (variables : (y : ℕ) → whole y ≡ true → y < length z.laid) (bare : AreBare z whole) where
+    -- some of them
+    abbrev pub AreSome : (ℕ → Bool) → Type 0
+    AreSome out = (y : ℕ) → out y ≡ true → whole y ≡ true
+
+    -- one statement is run, and these are not at home yet
+    pub record StatementRun (depth : ℕ) (out : ℕ → Bool) (s : StraightTree) (rest : StraightBlock)
+        (value : Option TermTree) : Type 0 where
+      pub left : ℕ → Bool
+      pub fewer_left : (y : ℕ) → left y ≡ true → out y ≡ true
+      pub fresh : (y : ℕ) → left y ≡ true → is_fresh y rest value ≡ true
+      pub runs : Steps_on depth out left s
+
+    abbrev block_of : ℕ → StraightBlock → List Instr
+    block_of depth b = block_code (layout_of z) depth b
+
+    -- a statement that they pass leaves them all
+    leaves : (depth : ℕ) (out : ℕ → Bool) (s : StraightTree) (rest : StraightBlock) (value : Option TermTree)
+        → ((y : ℕ) → out y ≡ true → is_fresh y (first s rest) value ≡ true)
+        → ((y : ℕ) → out y ≡ true → sets_fresh y s ≡ false)
+        → (((y : ℕ) → out y ≡ true → passes y s ≡ true) → Steps_on depth out out s)
+        → StatementRun depth out s rest value
+    leaves depth out s rest value fresh off runs =
+        let ways = λ (y : ℕ) (on : out y ≡ true).
+        passed (sets_fresh y s) (passes y s) (is_fresh y rest value) (off y on) (fresh y on) in
+        record {
+          left = out;
+          fewer_left = λ y on. on;
+          fresh = λ y on. (ways y on).1;
+          runs = runs (λ y on. (ways y on).0);
+        }
+
+    -- the same where those have no homes
+    shown_in : (depth : ℕ) (out : ℕ → Bool) {n : ℕ} {is : List Instr} {path : StraightState → Path}
+        (made : StraightState → StraightState)
+        → Runs z n path is (Ready (fewer z out)) (Made depth out made)
+        → Runs (fewer z out) n path is (Ready (fewer z out)) (StateShown (fewer z out) depth made)
+    shown_in depth out made one =
+        in_fewer z out
+        (gives (λ env s t fine ready done. record { ready = done.0; hidden = done.1 }) one)
+
+    mutual
+      pub stepped : (depth : ℕ) (out : ℕ → Bool) → AreSome out → (s : StraightTree) (rest : StraightBlock)
+          (value : Option TermTree)
+          → ((y : ℕ) → out y ≡ true → is_fresh y (first s rest) value ≡ true)
+          → IsTyped z.code.profile z.declared z.controls s → ReadsKept a.unread s
+          → base + 4 * slots_to a.count (height_in s) ≤ z.size → depth + depth_in s ≤ z.depths
+          → length (code_of depth s) < far → StatementRun depth out s rest value
+      stepped depth out some (set None x e) rest value fresh typed read room within few = by_test (out x) refl
+        where
+          by_test : (b : Bool) → out x ≡ b → StatementRun depth out (set None x e) rest value
           by_test true is = record {
             left = without out x;
-            variables = λ y on. variables y (both_true (y == x) (out y) on).1;
+            fewer_left = λ y on. (both_true (y == x) (out y) on).1;
             fresh = λ y on.
                 let both = both_true (y == x) (out y) on in
                 later (x == y) (names_in y e) (is_fresh y rest value)
                 (ne_eqb x y (λ same. eqb-false y x both.0 (sym same))) (fresh y both.1);
-            runs = fresh_runs out variables x e typed.1
-                (λ y on. not_read (x == y) (names_in y e) (is_fresh y rest value) (fresh y on)) room few
-                (home_of a.homes x) refl;
+            runs = fresh_runs depth out (λ y on. variables y (some y on)) x e typed.1
+                (λ y on. not_read (x == y) (names_in y e) (is_fresh y rest value) (fresh y on)) room
+                (omega (arith, within)) few (home_of a.homes x) refl;
           }
           by_test false is =
-              stepped_on (set None x e) rest fresh
+              leaves depth out (set None x e) rest value fresh
               (λ y on. and_left (x == y) (not (names_in y e))
               (ne_eqb x y (λ same. true≢false (sym on ∙ (ap out (sym same) ∙ is)))))
-              typed read room within few
-      stepped s rest fresh typed read room within few =
-          stepped_on s rest fresh (λ y on. refl) typed read room within few
+              (λ free. kept_runs depth out (λ y on. variables y (some y on)) (set None x e) tt free typed read room
+              within few)
+      stepped depth out some (set (Some c) x e) rest value fresh typed read room within few =
+          leaves depth out (set (Some c) x e) rest value fresh (λ y on. refl)
+          (λ free. kept_runs depth out (λ y on. variables y (some y on)) (set (Some c) x e) tt free typed read room
+          within few)
+      stepped depth out some (array x size values) rest value fresh typed read room within few =
+          leaves depth out (array x size values) rest value fresh (λ y on. refl)
+          (λ free. kept_runs depth out (λ y on. variables y (some y on)) (array x size values) tt free typed read room
+          within few)
+      stepped depth out some (put c place x size index e) rest value fresh typed read room within few =
+          leaves depth out (put c place x size index e) rest value fresh (λ y on. refl)
+          (λ free. kept_runs depth out (λ y on. variables y (some y on)) (put c place x size index e) tt free typed read
+          room within few)
+      stepped depth out some (take c enclosing condition) rest value fresh typed read room within few =
+          leaves depth out (take c enclosing condition) rest value fresh (λ y on. refl)
+          (λ free. kept_runs depth out (λ y on. variables y (some y on)) (take c enclosing condition) tt free typed read
+          room within few)
+      stepped depth out some (branch condition accepted otherwise) rest value fresh typed read room within few =
+          leaves depth out (branch condition accepted otherwise) rest value fresh (λ y on. refl)
+          (λ free.
+          let inside = λ (y : ℕ) (on : out y ≡ true). and_parts _ _ (free y on) in
+          let arms = λ (y : ℕ) (on : out y ≡ true). and_parts _ _ (inside y on).1 in
+          let unnamed = λ (y : ℕ) (on : out y ≡ true). not-true (names_in y condition) (inside y on).0 in
+          let below = λ (y : ℕ) (on : out y ≡ true). variables y (some y on) in
+          let xs = block_of depth accepted in
+          let ys = block_of depth otherwise in
+          let spans = branching_spans (layout_of z) condition xs ys in
+          let near : AreNear (length xs) (length ys) = omega (arith, spans.0, few) in
+          as_code (sym (branching_same (layout_of z) out below condition xs ys unnamed))
+          (cheaper (omega arith)
+          (gives (λ env s t fine ready done. (done.ready, done.hidden))
+          (in_all z out
+          (branching_runs (fewer z out) depth condition (labelled Boolean Public) accepted otherwise
+          (32 * block_work z.counts accepted) (32 * block_work z.counts otherwise)
+          (own_typed out z.code.profile z.declared (typed_as z out) (typed_same z out) typed.0 unnamed)
+          (omega (arith, room)) (omega (arith, within)) near
+          (shown_in depth out (λ env. after_all env accepted)
+          (blocks depth out some accepted (λ y on. (arms y on).0) typed.1 read.0 (omega (arith, room))
+          (omega (arith, within)) (omega (arith, near))))
+          (shown_in depth out (λ env. after_all env otherwise)
+          (blocks depth out some otherwise (λ y on. (arms y on).1) typed.2 read.1 (omega (arith, room))
+          (omega (arith, within)) (omega (arith, near)))))))))
+      stepped depth out some (repeats x low high body) rest value fresh typed read room within few =
+          leaves depth out (repeats x low high body) rest value fresh (λ y on. refl)
+          (λ free.
+          let inside = λ (y : ℕ) (on : out y ≡ true). and_parts _ _ (free y on) in
+          let parts = λ (y : ℕ) (on : out y ≡ true).
+          neither_of_three _ _ _ (not-true ((x == y) || (names_in y low || names_in y high)) (inside y on).0) in
+          let counter = λ (y : ℕ) (on : out y ≡ true). (parts y on).0 in
+          let first_bound = λ (y : ℕ) (on : out y ≡ true). (parts y on).1 in
+          let last_bound = λ (y : ℕ) (on : out y ≡ true). (parts y on).2 in
+          let below = λ (y : ℕ) (on : out y ≡ true). variables y (some y on) in
+          let ys = block_of (depth + 1) body in
+          let spans = repeat_spans (layout_of z) depth x ys low high (any_sets x body) in
+          let same = repeat_same (layout_of z) out below depth x low high (any_sets x body) ys counter first_bound
+          last_bound in
+          as_code (sym same)
+          (cheaper (omega (arith, height low))
+          (gives (λ env s t fine ready done. (done.ready, done.hidden))
+          (in_all z out
+          (loops_run (fewer z out) depth x (omega (arith, within)) low high body (32 * block_work z.counts body)
+          (known_typed out z.code.profile z.declared (typed_as z out) (typed_same z out) x counter typed.2)
+          (own_typed out z.code.profile z.declared (typed_as z out) (typed_same z out) typed.0 first_bound)
+          (own_typed out z.code.profile z.declared (typed_as z out) (typed_same z out) typed.1 last_bound)
+          (omega (arith, room)) (omega (arith, room))
+          (shown_in (depth + 1) out (λ env. after_all env body)
+          (blocks (depth + 1) out some body (λ y on. (inside y on).1) typed.3 read (omega (arith, room))
+          (omega (arith, within)) (omega (arith, spans.0, few))))
+          (subst (λ (is : List Instr). length is < far) (sym same) few))))))
 
-    -- an array is typed as before
-    array_typed : (out : ℕ → Bool) (x : ℕ) (d : FlatVariable) (size : ℕ) → slice_get z.declared x ≡ Some d
-        → d.elements ≡ Some size → slice_get (typed_as z out) x ≡ Some d
-    array_typed out x d size is array = typed_away z out x d is (z.allocated.words x d size is array)
-
-    abbrev block_of : StraightBlock → List Instr
-    block_of b = block_code (layout_of z) 0 b
-
-    -- a block and the result behind it are run, and these are not at home yet
-    abbrev Behind : StraightBlock → (ℕ → Bool) → Type 0
-    Behind b out = Runs z (32 * block_work z.counts b + 32 * value_nodes value)
-        (λ env. path_along env b ++ steps_of_result value (after_all env b))
-        (block_of b ++ result_code (layout_of z) value) (Ready (fewer z out))
-        (λ env s t. ProgramEnded value (after_all env b) t)
-
-    behind_runs : (b : StraightBlock) (out : ℕ → Bool) → ((y : ℕ) → out y ≡ true → y < length z.laid)
-        → ((y : ℕ) → out y ≡ true → is_fresh y b value ≡ true)
-        → AreTyped z.code.profile z.declared z.controls b → AllReadKept a.unread b
-        → base + 4 * slots_to a.count (height_in_all b) ≤ z.size → depth_in_all b ≤ z.depths
-        → length (block_of b) < far → Behind b out
-    behind_runs nothing out variables fresh typed read room within few =
-        as_code
-        (sym (result_same (layout_of z) out variables value
-        (λ y on. not-true (names_in_result y value) (fresh y on))))
-        (cheaper (omega arith)
-        (gives
-        (λ env s t fine ready given. record {
-          held = record { base = given.ready.held.base; data_there = given.ready.held.data_there };
-          arrays_held = λ x d size is array. given.ready.fits x d (array_typed out x d size is array);
-          arrays_there = λ x d size i is array below.
-              let typed = array_typed out x d size is array in
-              given.ready.variables_there x d i typed ((fewer z out).allocated.words x d size typed array) below;
-          left = given.left;
-        })
-        (in_all out (result_runs (fewer z out) returned value
-        (result_typed out z.code.profile z.declared (typed_as z out) (typed_same out) returned value typed_result
-        (λ y on. not-true (names_in_result y value) (fresh y on))) room_result))))
-    behind_runs (first s rest) out variables fresh typed read room within few =
-        let step = stepped out variables s rest fresh typed.0 read.0 (omega (arith, room)) (omega (arith, within))
-        (omega (arith, length-append {A = Instr}, few)) in
-        as_code (append_assoc (code_of s) (block_of rest) (result_code (layout_of z) value))
-        (along (λ env. append_assoc (path_at env s) (path_along (after env s) rest)
-        (steps_of_result value (after_all (after env s) rest)))
-        (cheaper (omega arith)
-        (gives
-        (λ env s' t fine ready done. done.second)
-        (seq step.runs
-        (beside (λ env. after env s)
-        (behind_runs rest step.left step.variables step.fresh typed.1 read.1 (omega (arith, room))
-        (omega (arith, within)) (omega (arith, length-append {A = Instr}, few))))
-        (λ env s' t ready done. done)))))
-
-    -- A program: the homes but those of some words are filled first.
-
-    pub program_runs : (b : StraightBlock) (out : ℕ → Bool) → ((y : ℕ) → out y ≡ true → y < length z.laid)
-        → ((y : ℕ) → out y ≡ true → is_fresh y b value ≡ true)
-        → length a.homes ≤ length z.laid + z.controls
-        → AreTyped z.code.profile z.declared z.controls b → AllReadKept a.unread b
-        → base + 4 * slots_to a.count (height_in_all b) ≤ z.size → depth_in_all b ≤ z.depths
-        → length (block_of b) < far
-        → Runs z (3 * home_count a.homes + 2 * mirror_count a.mirrors
-        + (32 * block_work z.counts b + 32 * value_nodes value))
-        (λ env. path_along env b ++ steps_of_result value (after_all env b))
-        ((entry_code z.laid 0 (homes_but out 0 a.homes) ++ mirrors_code (homes_but out 0 a.homes) 0 a.mirrors)
-        ++ (block_of b ++ result_code (layout_of z) value))
-        (Laid z) (λ env s t. ProgramEnded value (after_all env b) t)
-    program_runs b out variables fresh few_homes typed read room within few =
-        let count = homes_fewer out 0 a.homes in
-        cheaper (omega (arith, count.0))
-        (gives
-        (λ env s t fine laid done. done.second)
-        (quietly
-        (weaken
-        (λ env s fine laid. record {
-          held = record { base = laid.held.base; data_there = laid.held.data_there };
-          fits = λ x d is.
-              typed_each z out x d (IsOfKind d (env.variables x)) is (λ on known. laid.laid_fits x d known)
-              (λ off known. laid.fits x d known);
-          laid_fits = laid.laid_fits;
-          slots_there = laid.slots_there;
-          zeros_there = λ x home at. laid.zeros_there x home (home_was a out x home at);
-          controls_there = laid.controls_there;
-        })
-        (λ env s t fine laid done. done)
-        (in_all out (entry_runs (fewer z out) (omega (arith, count.1, few_homes)))))
-        (behind_runs b out variables fresh typed read room within few)
-        (λ env s t laid ready. ready)))
+      -- statements, one after the other: those that came home are left out again behind them
+      pub blocks : (depth : ℕ) (out : ℕ → Bool) → AreSome out → (b : StraightBlock)
+          → ((y : ℕ) → out y ≡ true → is_fresh y b None ≡ true)
+          → AreTyped z.code.profile z.declared z.controls b → AllReadKept a.unread b
+          → base + 4 * slots_to a.count (height_in_all b) ≤ z.size → depth + depth_in_all b ≤ z.depths
+          → length (block_of depth b) < far
+          → Runs z (32 * block_work z.counts b) (λ env. path_along env b) (block_of depth b) (Ready (fewer z out))
+          (Made depth out (λ env. after_all env b))
+      blocks depth out some nothing fresh typed read room within few =
+          idle (λ env s ready. (ready, λ o low high. refl))
+      blocks depth out some (first s rest) fresh typed read room within few =
+          let step = stepped depth out some s rest None fresh typed.0 read.0 (omega (arith, room)) (omega (arith, within))
+          (omega (arith, length-append {A = Instr}, few)) in
+          let fewer_some : AreSome step.left = λ y on. some y (step.fewer_left y on) in
+          cheaper (omega arith)
+          (gives
+          (λ env s' t fine ready done. (
+            ready_left z step.left out step.fewer_left (λ y on. variables y (some y on))
+                (λ y home d on at known. bare y home d (some y on) at known) (after_all (after env s) rest) t done.second.0,
+            hidden_then z depth s' done.middle t done.first.1 done.second.1,
+          ))
+          (seq step.runs
+          (beside (λ env. after env s)
+          (blocks depth step.left fewer_some rest step.fresh typed.1 read.1 (omega (arith, room))
+          (omega (arith, within)) (omega (arith, length-append {A = Instr}, few))))
+          (λ env s' t ready done. done.0)))

@@ -40,7 +40,9 @@ pub mod EntryRuns
 pub mod HomesBut
 pub mod FewerHomes
 pub mod TypedBut
+pub mod SettingBut
 pub mod FreshRuns
+pub mod ProgramRuns
 pub mod BodyRuns
 pub mod WeightLengths
 pub mod ReadControls

@@ -118,6 +118,14 @@ slotted_there given homes ds x d is away =
     ap (λ (h : Option ℕ). nat_lt x given || is_none h) away ∙ or_true (nat_lt x given) in
     slotted_is given homes ds x ∙ ap₂ laid_by slot is
 
+-- one that has a home, and is no parameter, takes no words
+pub slotted_bare : (given : ℕ) (homes : List (Option ℕ)) (ds : List FlatVariable) (x home : ℕ) (d : FlatVariable)
+    → nat_lt x given ≡ false → slice_get ds x ≡ Some d → home_of homes x ≡ Some home
+    → slice_get (slotted given homes ds) x ≡ Some (without_words d)
+slotted_bare given homes ds x home d behind is at =
+    let slot : has_slot given homes x ≡ false = ap₂ (λ b (h : Option ℕ). b || is_none h) behind at in
+    slotted_is given homes ds x ∙ ap₂ laid_by slot is
+
 -- and one that has any numbers there
 pub slotted_was : (given : ℕ) (homes : List (Option ℕ)) (ds : List FlatVariable) (x : ℕ) (d : FlatVariable)
     → slice_get (slotted given homes ds) x ≡ Some d → 0 < numbers_in d.elements → slice_get ds x ≡ Some d

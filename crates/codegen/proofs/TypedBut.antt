@@ -1,15 +1,15 @@
 -- Variables of which some are typed as they are laid out: what names none of these is typed as before.
-use Rattle.std.proofs.Common.{◌≡◌, ℕ, zero, suc, ◌+◌, ◌==◌, Bool, true, false, List, [], ◌∷◌, length, Option}
-use Rattle.std.proofs.Common.{None, Some, slice_get, refl, sym, ap, ◌∙◌, arith, eq-eqb, if◌then◌else◌}
-use Rattle.std.proofs.lemmas.Bool.{false_from_ne_true, or_parts, true≢false}
+use Rattle.std.proofs.Common.{◌≡◌, ℕ, zero, suc, ◌+◌, ◌==◌, ◌||◌, Bool, true, false, List, [], ◌∷◌, length, not}
+use Rattle.std.proofs.Common.{Option, None, Some, slice_get, refl, sym, ap, ◌∙◌, arith, eq-eqb, if◌then◌else◌}
+use Rattle.std.proofs.lemmas.Bool.{false_from_ne_true, not-true, or_parts, true≢false}
 use Rattle.codegen.proofs.Choices.{choice_of, of_choice}
-use Rattle.codegen.proofs.Language.{AllSuit, AreTyped, array, branch, first, FlatVariable, IsResult, IsTyped, nothing}
-use Rattle.codegen.proofs.Language.{Profile, put, repeats, set, StraightBlock, StraightTree, take, TermHasType}
+use Rattle.codegen.proofs.Language.{AllSuit, array, branch, FlatVariable, IsResult, IsTyped}
+use Rattle.codegen.proofs.Language.{Profile, put, repeats, set, StraightTree, take, TermHasType}
 use Rattle.codegen.proofs.Language.{TermSuits, TermTree, Types, types_but, types_of, WordType}
 use Rattle.codegen.proofs.expression_code_lemmas.Below.{of_binary, of_conversion, of_element, of_number, of_prefix}
 use Rattle.codegen.proofs.expression_code_lemmas.Below.{of_rotation, of_selection, of_truth, of_variable}
-use Rattle.codegen.proofs.FewerHomes.{neither_of_three, neither_of_four}
-use Rattle.codegen.specs.private.Fresh.{any_names, names, names_in, names_in_any, names_in_result}
+use Rattle.codegen.proofs.FewerHomes.{IsSimple, neither_of_three}
+use Rattle.codegen.specs.private.Fresh.{names_in, names_in_any, names_in_result, passes}
 
 -- from the variable of number k on, of two lists of as many the first one where it is one of those
 abbrev pub typed_but : (ℕ → Bool) → ℕ → List FlatVariable → List FlatVariable → List FlatVariable
@@ -106,7 +106,7 @@ module _ (out : ℕ → Bool) where
         → Spares (λ y. names_in y e) → TermSuits (types_of profile es) wanted e
     value_typed = suits_typed (types_of profile ds) (λ y. slice_get es y) same
 
-    own_typed : {e : TermTree} {word : WordType} → TermHasType (types_of profile ds) e word
+    pub own_typed : {e : TermTree} {word : WordType} → TermHasType (types_of profile ds) e word
         → Spares (λ y. names_in y e) → TermHasType (types_of profile es) e word
     own_typed = term_typed (types_of profile ds) (λ y. slice_get es y) same
 
@@ -117,61 +117,49 @@ module _ (out : ℕ → Bool) where
     result_typed (Some word) (Some value) typed spares = value_typed word value typed spares
     result_typed returned value typed spares = absurd typed
 
-    known_typed : (x : ℕ) {o : Option FlatVariable} → Spares (λ y. x == y) → slice_get ds x ≡ o → slice_get es x ≡ o
+    pub known_typed : (x : ℕ) {o : Option FlatVariable} → Spares (λ y. x == y) → slice_get ds x ≡ o
+        → slice_get es x ≡ o
     known_typed x spares known = same x (stays x spares) ∙ known
 
-    mutual
-      pub statement_typed : (controls : ℕ) (s : StraightTree) → IsTyped profile ds controls s
-          → Spares (λ y. names y s) → IsTyped profile es controls s
-      statement_typed controls (set within x value) typed spares = (
-        typed.0,
-        record {
-          word = typed.1.word;
-          mutable = typed.1.mutable;
-          known = known_typed x (λ y on. (or_parts _ _ (spares y on)).0) typed.1.known;
-          suits = value_typed typed.1.word value typed.1.suits (λ y on. (or_parts _ _ (spares y on)).1);
-        },
-      )
-      statement_typed controls (array x size values) typed spares = record {
-        word = typed.word;
-        mutable = typed.mutable;
-        known = known_typed x (λ y on. (or_parts _ _ (spares y on)).0) typed.known;
-        suit = all_typed (types_but profile ds x) (λ y. if y == x then None else slice_get es y)
-            (λ y off. ap (λ (o : Option FlatVariable). if y == x then None else o) (same y off)) typed.word values
-            typed.suit (λ y on. (or_parts _ _ (spares y on)).1);
-        count = typed.count;
-      }
-      statement_typed controls (put within place x size index value) typed spares =
-          let parts = λ (y : ℕ) (on : out y ≡ true). neither_of_three _ _ _ (spares y on) in (
-            typed.0,
-            record {
-              word = typed.1.word;
-              mutable = typed.1.mutable;
-              known = known_typed x (λ y on. (parts y on).0) typed.1.known;
-              index_type = own_typed typed.1.index_type (λ y on. (parts y on).1);
-              suits = value_typed typed.1.word value typed.1.suits (λ y on. (parts y on).2);
-            },
-          )
-      statement_typed controls (take control within condition) typed spares =
-          (typed.0, typed.1, (typed.2.0, own_typed typed.2.1 spares))
-      statement_typed controls (branch condition accepted otherwise) typed spares =
-          let parts = λ (y : ℕ) (on : out y ≡ true). neither_of_three _ _ _ (spares y on) in (
-            own_typed typed.0 (λ y on. (parts y on).0),
-            block_typed controls accepted typed.1 (λ y on. (parts y on).1),
-            block_typed controls otherwise typed.2 (λ y on. (parts y on).2),
-          )
-      statement_typed controls (repeats x low high body) typed spares =
-          let parts = λ (y : ℕ) (on : out y ≡ true). neither_of_four _ _ _ _ (spares y on) in (
-            own_typed typed.0 (λ y on. (parts y on).1),
-            own_typed typed.1 (λ y on. (parts y on).2),
-            known_typed x (λ y on. (parts y on).0) typed.2,
-            block_typed controls body typed.3 (λ y on. (parts y on).3),
-          )
+    free : (named : ℕ → Bool) → ((y : ℕ) → out y ≡ true → not (named y) ≡ true) → Spares named
+    free named passed y on = not-true (named y) (passed y on)
 
-      block_typed : (controls : ℕ) (b : StraightBlock) → AreTyped profile ds controls b → Spares (λ y. any_names y b)
-          → AreTyped profile es controls b
-      block_typed controls nothing typed spares = tt
-      block_typed controls (first s rest) typed spares = (
-        statement_typed controls s typed.0 (λ y on. (or_parts _ _ (spares y on)).0),
-        block_typed controls rest typed.1 (λ y on. (or_parts _ _ (spares y on)).1),
-      )
+    pub statement_typed : (controls : ℕ) (s : StraightTree) → IsSimple s → IsTyped profile ds controls s
+        → ((y : ℕ) → out y ≡ true → passes y s ≡ true) → IsTyped profile es controls s
+    statement_typed controls (set within x value) simple typed passed =
+        let spares = free (λ y. (x == y) || names_in y value) passed in (
+          typed.0,
+          record {
+            word = typed.1.word;
+            mutable = typed.1.mutable;
+            known = known_typed x (λ y on. (or_parts _ _ (spares y on)).0) typed.1.known;
+            suits = value_typed typed.1.word value typed.1.suits (λ y on. (or_parts _ _ (spares y on)).1);
+          },
+        )
+    statement_typed controls (array x size values) simple typed passed =
+        let spares = free (λ y. (x == y) || names_in_any y values) passed in
+        record {
+          word = typed.word;
+          mutable = typed.mutable;
+          known = known_typed x (λ y on. (or_parts _ _ (spares y on)).0) typed.known;
+          suit = all_typed (types_but profile ds x) (λ y. if y == x then None else slice_get es y)
+              (λ y off. ap (λ (o : Option FlatVariable). if y == x then None else o) (same y off)) typed.word values
+              typed.suit (λ y on. (or_parts _ _ (spares y on)).1);
+          count = typed.count;
+        }
+    statement_typed controls (put within place x size index value) simple typed passed =
+        let spares = free (λ y. (x == y) || (names_in y index || names_in y value)) passed in
+        let parts = λ (y : ℕ) (on : out y ≡ true). neither_of_three _ _ _ (spares y on) in (
+          typed.0,
+          record {
+            word = typed.1.word;
+            mutable = typed.1.mutable;
+            known = known_typed x (λ y on. (parts y on).0) typed.1.known;
+            index_type = own_typed typed.1.index_type (λ y on. (parts y on).1);
+            suits = value_typed typed.1.word value typed.1.suits (λ y on. (parts y on).2);
+          },
+        )
+    statement_typed controls (take control within condition) simple typed passed =
+        (typed.0, typed.1, (typed.2.0, own_typed typed.2.1 (free (λ y. names_in y condition) passed)))
+    statement_typed controls (branch condition accepted otherwise) simple typed passed = absurd simple
+    statement_typed controls (repeats x low high body) simple typed passed = absurd simple

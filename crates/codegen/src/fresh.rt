@@ -1,9 +1,9 @@
-// Which variables need not hold anything at first: the first statement that names one sets it, and does not read it.
+// Which variables need not hold anything at first: what reads one comes behind a statement that sets it.
 
 ghost use Rattle.std.specs.Prelude.{◌≡◌, map};
 ghost use Rattle.codegen.specs.Below.{straight_block, straight_tree, term_tree};
-ghost use Rattle.codegen.specs.private.Fresh.{names_in, names_in_any, names_in_result, names, any_names, sets_fresh};
-ghost use Rattle.codegen.specs.private.Fresh.{is_fresh, starts_fresh};
+ghost use Rattle.codegen.specs.private.Fresh.{is_fresh, names_in, names_in_any, names_in_result, passes, sets_fresh};
+ghost use Rattle.codegen.specs.private.Fresh.{starts_fresh};
 ghost use Rattle.std.specs.Option.{option_map};
 
 use branch_removal::{StraightCode, StraightStatement};
@@ -41,46 +41,6 @@ fn names_in_any(terms: &[Term], variable: usize) -> bool
     false
 }
 
-/// Whether a statement names a variable.
-#[cycle(naming)]
-fn names(statement: &StraightStatement, variable: usize) -> bool
-    ensures { result ≡ names variable (straight_tree statement.now) }
-{
-    match statement {
-        StraightStatement::Set(_, set, value) => {
-            *set as usize == variable || names_in(value, variable)
-        }
-        StraightStatement::Array(set, _, values) => *set as usize == variable
-            || names_in_any(values, variable),
-        StraightStatement::Put(_, _, set, _, index, value) => {
-            *set as usize == variable || (names_in(index, variable) || names_in(value, variable))
-        }
-        StraightStatement::Take(_, _, condition) => names_in(condition, variable),
-        StraightStatement::Branch(condition, accepted, otherwise) => {
-            names_in(condition, variable)
-                || (any_names(accepted, variable) || any_names(otherwise, variable))
-        }
-        StraightStatement::Repeat(counter, low, high, body) => {
-            *counter as usize == variable
-                || (names_in(low, variable)
-                    || (names_in(high, variable) || any_names(body, variable)))
-        }
-    }
-}
-
-/// Whether one of some statements names a variable.
-#[cycle(naming)]
-fn any_names(statements: &[StraightStatement], variable: usize) -> bool
-    ensures { result ≡ any_names variable (straight_block statements.now) }
-{
-    for statement in statements {
-        if names(statement, variable) {
-            return true;
-        }
-    }
-    false
-}
-
 /// Whether a statement sets a variable, and reads nowhere what it held before.
 fn sets_fresh(statement: &StraightStatement, variable: usize) -> bool
     ensures { result ≡ sets_fresh variable (straight_tree statement.now) }
@@ -92,7 +52,36 @@ fn sets_fresh(statement: &StraightStatement, variable: usize) -> bool
     }
 }
 
-/// Whether the first of some statements that names a variable sets it so, or neither one nor the result names it.
+/// Whether a statement reads nowhere what a variable held before it; it may set it, but only within an arm or a loop.
+#[cycle(freshness)]
+fn passes(statement: &StraightStatement, variable: usize) -> bool
+    ensures { result ≡ passes variable (straight_tree statement.now) }
+{
+    match statement {
+        StraightStatement::Set(_, set, value) => {
+            !(*set as usize == variable || names_in(value, variable))
+        }
+        StraightStatement::Array(set, _, values) => {
+            !(*set as usize == variable || names_in_any(values, variable))
+        }
+        StraightStatement::Put(_, _, set, _, index, value) => {
+            !(*set as usize == variable || (names_in(index, variable) || names_in(value, variable)))
+        }
+        StraightStatement::Take(_, _, condition) => !names_in(condition, variable),
+        StraightStatement::Branch(condition, accepted, otherwise) => {
+            !names_in(condition, variable)
+                && (is_fresh(accepted, None, variable) && is_fresh(otherwise, None, variable))
+        }
+        StraightStatement::Repeat(counter, low, high, body) => {
+            !(*counter as usize == variable
+                || (names_in(low, variable) || names_in(high, variable)))
+                && is_fresh(body, None, variable)
+        }
+    }
+}
+
+/// Whether some statements and the result behind them read nowhere what a variable held before.
+#[cycle(freshness)]
 fn is_fresh(statements: &[StraightStatement], value: Option<&Term>, variable: usize) -> bool
     ensures { result ≡ is_fresh variable (straight_block statements.now)
         (option_map (λ term. term_tree term.now) value.entry) }
@@ -101,7 +90,7 @@ fn is_fresh(statements: &[StraightStatement], value: Option<&Term>, variable: us
         if sets_fresh(statement, variable) {
             return true;
         }
-        if names(statement, variable) {
+        if !passes(statement, variable) {
             return false;
         }
     }
@@ -111,9 +100,11 @@ fn is_fresh(statements: &[StraightStatement], value: Option<&Term>, variable: us
     }
 }
 
-/// Whether the word of a home is such a variable of a program, which is not loaded at the start.
+/// Whether the word of a home is such a variable of a program, and no parameter: it is not loaded at the start.
 pub fn starts_fresh(straight: &StraightCode<'_>, number: usize) -> bool
     ensures { result ≡ starts_fresh straight.now number }
 {
-    number < straight.declared().len() && is_fresh(straight.body(), straight.value(), number)
+    number >= straight.parameters().len()
+        && (number < straight.declared().len()
+            && is_fresh(straight.body(), straight.value(), number))
 }

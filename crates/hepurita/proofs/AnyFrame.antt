@@ -1,8 +1,8 @@
 -- The machine follows straight code from a frame that holds whatever it held, but for the arguments and the words that
 -- have to be zeros: the code sets each other variable before it reads it, so what that holds at first makes no
 -- difference.
-use Rattle.std.proofs.Common.{◌≡◌, ℕ, ◌+◌, ◌*◌, ◌<◌, Bool, true, false, if◌then◌else◌, List, [], ◌∷◌, ◌++◌, length, map}
-use Rattle.std.proofs.Common.{◌≤◌, Some, None, Option, length-append, slice_index, refl, sym, ap, ap₂, ◌∙◌, subst, arith}
+use Rattle.std.proofs.Common.{◌≡◌, ℕ, ◌+◌, ◌*◌, ◌<◌, nat_lt, Bool, true, false, if◌then◌else◌, List, [], ◌∷◌, ◌++◌, length}
+use Rattle.std.proofs.Common.{map, ◌≤◌, Some, None, Option, length-append, slice_index, refl, sym, ap, ap₂, ◌∙◌, subst, arith}
 use Rattle.codegen.proofs.Language.{AreWithin, StraightProgram, StraightState, after_all, path_along, outcome_of}
 use Rattle.codegen.proofs.Language.{path_of, types_of, Path, AreFine, seen, Arg, Profile, Values}
 use Rattle.codegen.proofs.Logic.{length-map, setting as pieces_of, bytes_of, place_of, Setting, seen_by, RunsAt, Steps, Runs, cheaper}
@@ -18,11 +18,11 @@ use Rattle.codegen.specs.Below.{start as start_of}
 use Rattle.codegen.proofs.Standing.{words_alone, body_words_before, placed_alone, leads_among}
 use Rattle.codegen.proofs.program_logic_lemmas.StepLaws.{leads_alone, still_there}
 use Rattle.codegen.specs.program_logic.MachineSteps.{at_most, LeadsBy}
-use Rattle.codegen.proofs.FreshRuns.{ProgramEnded, program_runs}
+use Rattle.codegen.proofs.ProgramRuns.{ProgramEnded, program_runs}
 use Rattle.codegen.specs.private.Fresh.{starts_fresh}
-use Rattle.std.proofs.lemmas.Bool.{and_parts, ltb-true}
+use Rattle.std.proofs.lemmas.Bool.{and_parts, ltb-true, not-true}
 use Rattle.codegen.proofs.Slots.{Laid}
-use Rattle.codegen.proofs.Slotted.{slotted_length, slotted_there, slotted_was}
+use Rattle.codegen.proofs.Slotted.{slotted_bare, slotted_length, slotted_there, slotted_was}
 use Rattle.codegen.proofs.ImageLemmas.{first_laid}
 use Rattle.codegen.proofs.Machine.{laid_out}
 use Rattle.codegen.proofs.Language.{numbers_in}
@@ -93,12 +93,15 @@ module _ (a : Allocation) (p : StraightProgram) (room : HasRoom p) (fitting : Is
   unfolding body_code steps Finished
   body_runs =
       cheaper (omega (arith, room.worked, fitting.few))
-      (program_runs setting p.returned p.value room.typed.result (omega arith) p.body (starts_fresh p)
+      (program_runs setting p.returned p.value room.typed.result (omega arith) (starts_fresh p)
       (λ y on. omega (
         arith,
-        ltb-true y (length p.declared) (and_parts _ _ on).0,
+        ltb-true y (length p.declared) (and_parts _ _ (and_parts _ _ on).1).0,
         slotted_length (length p.parameters) a.homes 0 p.declared,
-      )) (λ y on. (and_parts _ _ on).1)
+      ))
+      (λ y home d on at known. slotted_bare (length p.parameters) a.homes p.declared y home d
+      (not-true (nat_lt y (length p.parameters)) (and_parts _ _ on).0) known at)
+      p.body (λ y on. (and_parts _ _ (and_parts _ _ on).1).1)
       (omega (arith, fitting.within, slotted_length (length p.parameters) a.homes 0 p.declared))
       room.typed.body fitting.read (omega arith) (omega arith)
       (omega (arith, length-append {A = Instr}, short, room.nodes)))

@@ -1,5 +1,5 @@
--- Which variables need not hold anything at first: the first statement that names one sets it and does not read it, or
--- none names it.
+-- Which variables need not hold anything at first: what reads one comes behind a statement that sets it, and in a
+-- branch or a loop behind one of the same arm or the same iteration.
 use Rattle.std.specs.Prelude.{ℕ, ◌+◌, ◌==◌, ◌&&◌, ◌||◌, Bool, false, not, nat_lt, List, [], ◌∷◌, length}
 use Rattle.std.specs.Prelude.{Option, None, Some, is_none, if◌then◌else◌}
 use Rattle.codegen.specs.Below.{array, binary, branch, convert, element, first, nothing, number, prefix, put, repeats}
@@ -24,22 +24,6 @@ abbrev pub names_in_any : ℕ → List TermTree → Bool
 names_in_any y [] = false
 names_in_any y (e ∷ es) = names_in y e || names_in_any y es
 
-abbrev mutual
-  -- whether a statement does
-  pub names : ℕ → StraightTree → Bool
-  names y (set within x value) = (x == y) || names_in y value
-  names y (array x size values) = (x == y) || names_in_any y values
-  names y (put within place x size index value) = (x == y) || (names_in y index || names_in y value)
-  names y (take control within condition) = names_in y condition
-  names y (branch condition accepted otherwise) =
-      names_in y condition || (any_names y accepted || any_names y otherwise)
-  names y (repeats x low high body) = (x == y) || (names_in y low || (names_in y high || any_names y body))
-
-  -- whether one of some statements does
-  pub any_names : ℕ → StraightBlock → Bool
-  any_names y nothing = false
-  any_names y (first statement rest) = names y statement || any_names y rest
-
 -- whether a result does, where there is one
 abbrev pub names_in_result : ℕ → Option TermTree → Bool
 names_in_result y None = false
@@ -50,15 +34,27 @@ abbrev pub sets_fresh : ℕ → StraightTree → Bool
 sets_fresh y (set within x value) = is_none within && ((x == y) && not (names_in y value))
 sets_fresh y statement = false
 
--- whether the first statement that names a variable is one of these, or neither one nor the result names it
-abbrev pub is_fresh : ℕ → StraightBlock → Option TermTree → Bool
-is_fresh y nothing value = not (names_in_result y value)
-is_fresh y (first statement rest) value =
-    sets_fresh y statement || (not (names y statement) && is_fresh y rest value)
+abbrev mutual
+  -- whether a statement reads nowhere what a variable held before it; it may set it, but only within an arm or a loop
+  pub passes : ℕ → StraightTree → Bool
+  passes y (set within x value) = not ((x == y) || names_in y value)
+  passes y (array x size values) = not ((x == y) || names_in_any y values)
+  passes y (put within place x size index value) = not ((x == y) || (names_in y index || names_in y value))
+  passes y (take control within condition) = not (names_in y condition)
+  passes y (branch condition accepted otherwise) =
+      not (names_in y condition) && (is_fresh y accepted None && is_fresh y otherwise None)
+  passes y (repeats x low high body) =
+      not ((x == y) || (names_in y low || names_in y high)) && is_fresh y body None
 
--- whether the word of a home is such a variable: it is not loaded at the start
+  -- whether some statements and the result behind them read nowhere what a variable held before
+  pub is_fresh : ℕ → StraightBlock → Option TermTree → Bool
+  is_fresh y nothing value = not (names_in_result y value)
+  is_fresh y (first statement rest) value = sets_fresh y statement || (passes y statement && is_fresh y rest value)
+
+-- whether the word of a home is such a variable, and no parameter: it is not loaded at the start
 abbrev pub starts_fresh : StraightProgram → ℕ → Bool
-starts_fresh p y = nat_lt y (length p.declared) && is_fresh y p.body p.value
+starts_fresh p y =
+    not (nat_lt y (length p.parameters)) && (nat_lt y (length p.declared) && is_fresh y p.body p.value)
 
 -- the homes of the word x and those behind it but those of some words
 abbrev pub homes_but : (ℕ → Bool) → ℕ → List (Option ℕ) → List (Option ℕ)
