@@ -6,12 +6,13 @@
 // What is known is carried from statement to statement: of numbers all, of copies the last 16. After an arm or a loop
 // nothing is known of what it assigns, and in a loop that stays nothing of numbers of 2,048 or more. `simplify` also
 // makes products, quotients and remainders by powers of two shifts and masks; a division by 0 stays. `unroll` unrolls
-// loops with constant bounds, innermost first, where an iteration is short or there are at most three, as long as all
-// unrolled iterations together have at most 32 times the nodes of the source
-// (`specs/constants/private/Choice.antt`); the proof holds for any choice.
+// loops with constant bounds, innermost first, where what that saves is worth what it adds, and where an iteration is
+// short or there are at most three, as long as all unrolled iterations together have at most 32 times the nodes of the
+// source (`specs/constants/private/Choice.antt`); the proof holds for any choice.
 
 mod choice;
 pub(crate) mod copy_propagation;
+mod costs;
 pub(crate) mod fields;
 mod known;
 pub(crate) mod operators;

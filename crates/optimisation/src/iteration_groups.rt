@@ -5,7 +5,7 @@
 // stays public. Stands on `inline` and `branch_removal`.
 
 pub(crate) mod choice;
-mod losses;
+pub(crate) mod losses;
 mod plan;
 mod statements;
 mod terms;

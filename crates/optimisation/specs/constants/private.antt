@@ -4,4 +4,5 @@ pub mod Fields
 pub mod Powers
 pub mod Folding
 pub mod Simplification
+pub mod Costs
 pub mod Choice

@@ -50,10 +50,10 @@ pub fn simplify<'f>(
 }
 
 /// Simpler straight code, as `simplify` makes it, in which loops are their iterations, one after the other: those whose
-/// bounds are numbers once they are reached, innermost loops first, where an iteration is short, and as far as 32 times
-/// as many nodes as the source has go. It may stand in the place of the code that it is made of, which alone decides
-/// it; there is none where it would not be well typed or not within the limits on size. Running out of memory alone
-/// refuses it.
+/// bounds are numbers once they are reached, innermost loops first, where what that saves is worth what it adds, an
+/// iteration is short, and as far as 32 times as many nodes as the source has go. It may stand in the place of the code
+/// that it is made of, which alone decides it; there is none where it would not be well typed or not within the limits
+/// on size. Running out of memory alone refuses it.
 pub fn unroll<'f>(
     alloc: Global,
     straight: &StraightCode<'f>,

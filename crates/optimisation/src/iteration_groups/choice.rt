@@ -1,5 +1,5 @@
 // Which loops are grouped: those between two numbers that make at least sixteen iterations, whose body is short, has no
-// loop, sets the counter nowhere, and loses little in a group.
+// loop, sets the counter nowhere, and loses nothing in a group.
 
 ghost use Rattle.std.specs.Prelude.{◌≡◌, map};
 ghost use Rattle.optimisation.specs.Below.{straight_block, straight_tree, term_tree};
@@ -19,10 +19,7 @@ use inline::Term;
 pub const LEAST_ITERATIONS: u32 = 16;
 
 /// How many nodes an iteration may have.
-const MOST_NODES: u64 = 48;
-
-/// How many nodes an iteration has at least for each that it loses in a group.
-const NODES_FOR_LOSS: u64 = 32;
+const MOST_NODES: u64 = 24;
 
 /// Whether a statement has no loop, and does not set a variable.
 #[cycle(plain)]
@@ -90,13 +87,11 @@ fn nodes_by_all(statements: &[StraightStatement]) -> u64
     sum
 }
 
-/// Whether an iteration has few nodes, but many for each that it loses in a group.
+/// Whether an iteration has few nodes, and loses nothing in a group.
 fn is_short(arrays: &SplitArrays, counter: u32, body: &[StraightStatement]) -> bool
     ensures { result ≡ is_short arrays.now.arrays.items counter (straight_block body.now) }
 {
-    let nodes = nodes_by_all(body);
-    let lost = lost_by_all(arrays, counter, body);
-    nodes <= MOST_NODES && lost.saturating_mul(NODES_FOR_LOSS) <= nodes
+    nodes_by_all(body) <= MOST_NODES && lost_by_all(arrays, counter, body) == 0
 }
 
 /// A number.

@@ -13,9 +13,6 @@ use branch_removal::StraightStatement;
 use inline::Term;
 use language::BinaryOperator;
 
-/// What the use of an array that might become words counts: more than an iteration has nodes.
-const SPLIT_LOSS: u64 = 64;
-
 /// Whether an expression is a variable.
 fn is_variable(term: &Term) -> bool
     ensures { result ≡ is_variable (term_tree term.now) }
@@ -44,7 +41,7 @@ fn moves(operator: BinaryOperator, left: &Term, right: &Term) -> bool
 }
 
 /// Whether an index is a variable, or differs from one by a number.
-fn is_near(index: &Term) -> bool
+pub fn is_near(index: &Term) -> bool
     ensures { result ≡ is_near (term_tree index.now) }
 {
     match index {
@@ -59,7 +56,7 @@ fn lost_by_array(arrays: &SplitArrays, array: u32) -> u64
     ensures { result ≡ lost_part (part_of arrays.now.arrays.items array) }
 {
     match arrays.of(array) {
-        Some(_) => SPLIT_LOSS,
+        Some(_) => 1,
         None => 0,
     }
 }

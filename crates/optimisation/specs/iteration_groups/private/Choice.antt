@@ -1,6 +1,6 @@
 -- Which loops are grouped: those between two numbers that make at least sixteen iterations, whose body has few nodes
--- and no loop, sets the counter nowhere, and loses little in a group.
-use Rattle.std.specs.Prelude.{ℕ, ◌+◌, ◌-◌, ◌*◌, ◌/◌, ◌==◌, ◌&&◌, Bool, true, false, not, nat_le}
+-- and no loop, sets the counter nowhere, and loses nothing in a group.
+use Rattle.std.specs.Prelude.{ℕ, ◌+◌, ◌-◌, ◌/◌, ◌==◌, ◌&&◌, Bool, true, false, not, nat_le}
 use Rattle.std.specs.Prelude.{Option, None, Some, if◌then◌else◌}
 use Rattle.std.specs.Option.{option_and_then}
 use Rattle.optimisation.specs.Below.{array, branch, first, nothing, number, put, repeats, set, StraightBlock}
@@ -46,7 +46,7 @@ least_iterations = 16
 
 -- how many nodes an iteration may have
 abbrev pub most_nodes : ℕ
-most_nodes = 48
+most_nodes = 24
 
 abbrev pub number_in : TermTree → Option ℕ
 number_in (number value kind) = Some value
@@ -57,15 +57,10 @@ abbrev pub range_between : ℕ → ℕ → Option CounterRange
 range_between low high =
     if nat_le least_iterations (high - low) then Some (record { low = low; high = high }) else None
 
--- how many nodes an iteration has at least for each that it loses in a group
-abbrev pub nodes_for_loss : ℕ
-nodes_for_loss = 32
-
--- an iteration has few nodes, but many for each that it loses
+-- an iteration has few nodes, and loses nothing
 abbrev pub is_short : Parts → ℕ → StraightBlock → Bool
 is_short arrays x body =
-    nat_le (counted (body_size body)) most_nodes
-    && nat_le (counted (counted (lost_by_all arrays x body) * nodes_for_loss)) (counted (body_size body))
+    nat_le (counted (body_size body)) most_nodes && counted (lost_by_all arrays x body) == 0
 
 -- a loop with this counter and body may be grouped, where these arrays might become words
 abbrev pub is_groupable : Parts → ℕ → StraightBlock → Bool

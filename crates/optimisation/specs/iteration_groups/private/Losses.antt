@@ -1,6 +1,6 @@
 -- What an iteration loses in a group: where the counter is read, a sum of the base is made, but not for an index that
 -- is the counter, or differs from it by a number; and an array that might become words, if each iteration had code of
--- its own, stays one, which counts for more than there are nodes.
+-- its own, stays one.
 use Rattle.std.specs.Prelude.{ℕ, ◌+◌, ◌==◌, ◌&&◌, ◌||◌, Bool, true, false, List, [], ◌∷◌, if◌then◌else◌, Option}
 use Rattle.std.specs.Prelude.{None, Some}
 use Rattle.optimisation.specs.Below.{Add, array, binary, BinaryOperator, branch, convert, element, first, nothing}
@@ -29,12 +29,9 @@ is_near (variable x) = true
 is_near (binary place operator width left right) = moves operator left right
 is_near _ = false
 
-abbrev pub split_loss : ℕ
-split_loss = 64
-
 abbrev pub lost_part : Option SplitArray → ℕ
 lost_part None = 0
-lost_part (Some part) = split_loss
+lost_part (Some part) = 1
 
 -- what is lost by an expression, where this is the counter
 abbrev pub lost : Parts → ℕ → TermTree → ℕ

@@ -1,7 +1,7 @@
 use Rattle.std.proofs.Common.{◌≡◌, ◌+◌, List, rules, refl, ap, ◌∙◌, sym, subst, arith}
 use Rattle.branch_removal.specs.declared.straight.StraightStatement.{StraightStatement}
 use Rattle.optimisation.specs.Below.{straight_block, term_tree}
-use Rattle.optimisation.specs.constants.private.Choice.{term_size, choice_of, chosen_all, Chosen}
+use Rattle.optimisation.specs.constants.private.Choice.{term_size, choice_of, chosen_all, Chosen, is_worth}
 use Rattle.optimisation.specs.iteration_groups.private.Choice.{is_groupable}
 use Rattle.optimisation.proofs.constants_lemmas.ChoiceLemmas.{closed_by, grown_by}
 use Rattle.branch_removal.proofs.StatementTrees.{tree_of_branch, tree_of_loop, accepted_smaller, otherwise_smaller}
@@ -43,13 +43,17 @@ choose-returns-in-Branch t c =
 pub choose-returns-in-Repeat : goal.choose-returns-in-Repeat
 choose-returns-in-Repeat t c =
     let same = c.deref-in-Repeat-2.ensures.value ∙ sym c.deref-in-Repeat.ensures.value in
+    let alike = c.deref-in-Repeat-3.ensures.value ∙ sym c.deref-in-Repeat.ensures.value in
     let may = subst (λ (items : List StraightStatement). c.is_groupable-groupable.result
     ≡ is_groupable c.choose_all-in-Repeat.new.self.arrays.arrays.items c.in-Repeat.counter (straight_block items))
     same c.is_groupable-groupable.ensures in
+    let saves = subst (λ (items : List StraightStatement). c.is_worth-worth.result
+    ≡ is_worth c.args.self.now.counts.times c.in-Repeat.counter (straight_block items)
+    (choice_of c.choose_all-in-Repeat.new.self)) alike c.is_worth-worth.ensures in
     rw (c.settle.ensures, tree_of_loop c.in-Repeat.body c.in-Repeat.is c.deref-in-Repeat.ensures.value)
     (closed_by c.args.self.now.counts c.in-Repeat.counter _
     (1 + term_size (term_tree c.in-Repeat.low) + term_size (term_tree c.in-Repeat.high))
-    (straight_block c.deref-in-Repeat.result.now) _ _ _
+    (straight_block c.deref-in-Repeat.result.now) _ _ _ _
     (omega (
       arith,
       c.saturating_add-in-Repeat.ensures,
@@ -57,7 +61,7 @@ choose-returns-in-Repeat t c =
       c.nodes_in-in-Repeat.ensures,
       c.nodes_in-in-Repeat-2.ensures,
     )) (c.choose_all-in-Repeat.ensures ∙ ap (λ (so_far : Chosen). chosen_all so_far
-    (straight_block c.deref-in-Repeat.result.now)) c.open.ensures) may)
+    (straight_block c.deref-in-Repeat.result.now)) c.open.ensures) may saves)
 
 pub choose_all-choose-requires : goal.choose_all-choose-requires
 choose_all-choose-requires t c =
