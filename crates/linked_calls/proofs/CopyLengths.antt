@@ -11,7 +11,6 @@ use Rattle.linked_calls.specs.Below.{Addi, Immediate}
 use Rattle.linked_calls.specs.FunctionCode.{bound_code, far_code}
 use Rattle.linked_calls.specs.Paces.{few_elements}
 use Rattle.linked_calls.specs.declared.pace.Pace.{Pace}
-use Rattle.linked_calls.specs.declared.pace.Pace.TheVariants.{Fast, Small}
 
 element_short : (inward : Bool) (kind : Kind) (offset : ℕ) → length (element_code inward kind offset) ≤ 3
 element_short true Boolean offset = omega arith
@@ -33,9 +32,8 @@ elements_short inward kind bytes offset (suc count) =
 far_short : (bytes : ℕ) → length (far_code bytes) ≤ 3
 far_short bytes = omega (arith, constant_length, length-append {A = Instr})
 
-bound_short : (pace : Pace) (bytes : ℕ) → length (bound_code pace bytes) ≤ 3
-bound_short Fast bytes = far_short bytes
-bound_short Small bytes = by (nat_lt bytes 2048)
+bound_short : (bytes : ℕ) → length (bound_code bytes) ≤ 3
+bound_short bytes = by (nat_lt bytes 2048)
   where
     by : (b : Bool) → length (if b then Immediate Addi 7 5 bytes ∷ [] else far_code bytes) ≤ 3
     by true = omega arith
@@ -46,7 +44,7 @@ rounds_short : (pace : Pace) (inward : Bool) (kind : Kind) (count : ℕ)
 rounds_short pace inward kind count =
     omega (
       arith,
-      bound_short pace,
+      bound_short,
       elements_short inward kind,
       length-append {A = Instr},
       round_few pace kind,

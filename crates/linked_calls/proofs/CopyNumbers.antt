@@ -519,10 +519,10 @@ module _ (inward : Bool) (z : Setting) (numbers : Numbers) (can : CanCopy inward
           let none : 0 + left ≡ left = omega arith in
           let fits = fewer_fit kind (r * rounds) k (omega (arith, all_rounds)) in
           let ends = can.place_ends in
-          as_code z (sym (append_assoc (bound_code pace bytes) (until_equal 5 7 (round_code pace inward kind)) rest))
-          (in_steps z (counted (length (bound_code pace bytes)) (length (elements_code element n 0 r)) (length rest))
+          as_code z (sym (append_assoc (bound_code bytes) (until_equal 5 7 (round_code pace inward kind)) rest))
+          (in_steps z (counted (length (bound_code bytes)) (length (elements_code element n 0 r)) (length rest))
           (makes_then z {P = BeginsCopy inward numbers} {f = bounded} {S = HasCopied inward numbers left}
-          (bound_runs z pace bytes (omega arith))
+          (bound_runs z bytes (omega arith))
           (then_runs z {S = λ s t. Copying (r * rounds) left s t} (loop_runs (rounds_some pace kind k many))
           (elements_run left (r * rounds) 0 0 (omega arith) (omega (arith, left_few pace kind k)) (omega (arith, all)))
           (λ s t begins held. (s, held))

@@ -19,8 +19,6 @@ use Rattle.linked_calls.proofs.Below.{sign_extended, store_code, stores_code, su
 use Rattle.linked_calls.proofs.Below.{upper_part, with_number, with_numbers, with_register, with_result, written}
 use Rattle.linked_calls.specs.Below.{Addi, Immediate, Upper, Word}
 use Rattle.linked_calls.specs.FunctionCode.{bound_code, far_code}
-use Rattle.linked_calls.specs.declared.pace.Pace.{Pace}
-use Rattle.linked_calls.specs.declared.pace.Pace.TheVariants.{Fast, Small}
 use Rattle.rv_code.specs.declared.instructions.Instr.TheVariants.{Load, Store}
 use Rattle.rv_machine.specs.declared.observation.Event.TheVariants as event
 use Rattle.linked_calls.proofs.Bytes.{number_there}
@@ -90,11 +88,9 @@ far_runs : (z : Setting) {P : Data → Type 0} (bytes : ℕ) → bytes < 2 ^ 32
 far_runs z bytes below =
     number_then z 7 bytes (omega arith) (λ e. omega arith) below Add 7 5 (omega arith) (omega arith)
 
-pub bound_runs : (z : Setting) {P : Data → Type 0} (pace : Pace) (bytes : ℕ) → bytes < 2 ^ 32
-    → Runs z (length (bound_code pace bytes)) (bound_code pace bytes) P
-    (λ s t. t ≡ with_result 7 (sum_of bytes (s.regs 5)) s)
-bound_runs z Fast bytes below = far_runs z bytes below
-bound_runs z {P = P} Small bytes below =
+pub bound_runs : (z : Setting) {P : Data → Type 0} (bytes : ℕ) → bytes < 2 ^ 32
+    → Runs z (length (bound_code bytes)) (bound_code bytes) P (λ s t. t ≡ with_result 7 (sum_of bytes (s.regs 5)) s)
+bound_runs z {P = P} bytes below =
     let near = Immediate Addi 7 5 bytes ∷ [] in
     by_near z bytes near (far_code bytes)
     (λ small. weaken_runs z {P' = P}

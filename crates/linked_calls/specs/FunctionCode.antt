@@ -28,7 +28,6 @@ use Rattle.rv_code.specs.declared.operations.LoadOperation.TheVariants.{Lw}
 use Rattle.rv_code.specs.declared.operations.StoreOperation.{StoreOperation}
 use Rattle.rv_code.specs.declared.operations.StoreOperation.TheVariants.{Sb, Sh, Sw}
 use Rattle.linked_calls.specs.declared.pace.Pace.{Pace}
-use Rattle.linked_calls.specs.declared.pace.Pace.TheVariants.{Fast, Small}
 
 -- Sizes.
 
@@ -255,18 +254,16 @@ elements_code code bytes offset (suc count) = code offset ++ elements_code code 
 abbrev pub far_code : ℕ → List Instr
 far_code bytes = constant_code 7 bytes ++ Register Add 7 7 5 ∷ []
 
--- where a loop ends, which is so many bytes behind x5, into x7; at a small pace in one instruction, where the number
--- fits it
-abbrev pub bound_code : Pace → ℕ → List Instr
-bound_code Fast bytes = far_code bytes
-bound_code Small bytes = if nat_lt bytes 2048 then Immediate Addi 7 5 bytes ∷ [] else far_code bytes
+-- where a loop ends, which is so many bytes behind x5, into x7; in one instruction, where the number fits it
+abbrev pub bound_code : ℕ → List Instr
+bound_code bytes = if nat_lt bytes 2048 then Immediate Addi 7 5 bytes ∷ [] else far_code bytes
 
 -- some of them by each round of a loop, up to x7, and those that are left behind it
 abbrev pub rounds_code : Pace → (ℕ → List Instr) → Kind → ℕ → List Instr
 rounds_code pace code kind count =
     let bytes = element_bytes kind in
     let round = per_round pace kind in
-    bound_code pace (bytes * (round * (count / round)))
+    bound_code (bytes * (round * (count / round)))
     ++ until_equal 5 7 (elements_code code bytes 0 round ++ next_code pace kind)
     ++ elements_code code bytes 0 (count % round)
 

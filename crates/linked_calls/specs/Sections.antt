@@ -109,7 +109,7 @@ abbrev pub rounds_steps : Pace → (ℕ → List Instr) → Kind → ℕ → ℕ
 rounds_steps pace code kind count =
     let bytes = element_bytes kind in
     let round = per_round pace kind in
-    length (bound_code pace (bytes * (round * (count / round))))
+    length (bound_code (bytes * (round * (count / round))))
     + (length (elements_code code bytes 0 round) + 3) * (count / round)
     + length (elements_code code bytes 0 (count % round))
 

@@ -151,17 +151,15 @@ fn far(code: &mut Vec<Instr>, bytes: u32) -> Result<(), AllocError>
 }
 
 /// Where a loop ends, which is so many bytes behind x5, into x7.
-fn bound(code: &mut Vec<Instr>, pace: Pace, bytes: u32) -> Result<(), AllocError>
-    ensures { OnOk result (code.new.items ≡ code.old.items ++ bound_code pace bytes) }
+fn bound(code: &mut Vec<Instr>, bytes: u32) -> Result<(), AllocError>
+    ensures { OnOk result (code.new.items ≡ code.old.items ++ bound_code bytes) }
 {
-    match pace {
-        Pace::Small if bytes < FAR => {
-            let near = Immediate12::from_bits(bytes);
-            code.push(Instr::Immediate(ImmediateOperation::Addi, Reg::X7, Reg::X5, near))?;
-            Ok(())
-        }
-        Pace::Fast | Pace::Small => far(code, bytes),
+    if bytes < FAR {
+        let near = Immediate12::from_bits(bytes);
+        code.push(Instr::Immediate(ImmediateOperation::Addi, Reg::X7, Reg::X5, near))?;
+        return Ok(());
     }
+    far(code, bytes)
 }
 
 /// Some elements a round, up to x7, and those that are left.
@@ -177,7 +175,7 @@ fn rounds(
     ensures { OnOk result (code.new.items ≡ code.old.items ++ rounds_code pace (element_code way kind) kind count) }
 {
     let bytes = u32::from(kind.element_bytes());
-    bound(code, pace, bytes * in_rounds(pace, kind, count))?;
+    bound(code, bytes * in_rounds(pace, kind, count))?;
     let mut round = Vec::new(alloc);
     elements(&mut round, way, kind, 0, per_round(pace, kind))?;
     next(&mut round, pace, kind)?;
