@@ -8,10 +8,12 @@ HEAD = re.compile(r"^# (\w+): made by factc [\d.]+ function; (\d+) words, (\d+) 
 ARRAY = re.compile(r"^parameter (\d+): an array$")
 SIZES = {"bool": 1, "uint8": 1, "uint16": 2, "uint32": 4}
 # What a loop does at once in the code around a body: the words that a run zeroes, by the type of elements how many a round copies and
-# from how many on there is a loop, whether arrays may go by words, and whether a near end of a loop takes one step.
-Pace = collections.namedtuple("Pace", "run round loop by_words near_end")
-FAST = Pace(8, {"bool": 4, "uint8": 1, "uint16": 1, "uint32": 4}, {"bool": 16, "uint8": 4, "uint16": 4, "uint32": 16}, True, False)
-SMALL = Pace(4, dict.fromkeys(SIZES, 1), dict.fromkeys(SIZES, 4), False, True)
+# from how many on there is a loop, and whether arrays may share a copier.
+Pace = collections.namedtuple("Pace", "run round loop copier")
+FAST = Pace(8, {"bool": 2, "uint8": 1, "uint16": 1, "uint32": 2}, {"bool": 8, "uint8": 4, "uint16": 4, "uint32": 8}, True)
+SMALL = Pace(4, dict.fromkeys(SIZES, 1), dict.fromkeys(SIZES, 4), False)
+# From how many elements on an array goes by the copier.
+CALLED = {"bool": 4, "uint8": 4, "uint16": 2, "uint32": 5}
 
 
 class Section:
@@ -82,7 +84,7 @@ class Function:
         for section in self.sections:
             for place in range(len(section.words)):
                 for behind, line in section.changes:
-                    if behind == place and place:
+                    if behind == place:
                         register, distance, kept = changed(line, register, distance, kept)
                 found.append((register, distance, dict(kept)))
             for behind, line in section.changes:
@@ -122,6 +124,7 @@ def wrapper_steps(parameters, offsets, frame, result, kept, pointers=None, blank
     needed = max((number + 1 for number, (form, _, _) in enumerate(parameters[:8]) if form == "mut"), default=0)
     low, above = blocks(frame), blocks(4 * (kept + needed))
     steps = (1 if above else 0) + kept + needed + framed(low, blank, pace)
+    size = round_of(parameters)
     for number, (form, kind, length) in enumerate(parameters):
         stacked = load(low + above + 4 * (number - 8))
         if form == "word":
@@ -131,8 +134,8 @@ def wrapper_steps(parameters, offsets, frame, result, kept, pointers=None, blank
             head, back = (1, load(low + above - 4 * needed + 4 * number)) if number < 8 else (stacked, stacked)
             aligned = (pointers or {}).get(number, 0) % 4 == 0
             if taken is None or number in taken:
-                steps += head + address(offsets[number]) + (copied(kind, length, 3, pace) if kind == "bool" else as_pointed(kind, length, aligned, pace))
-            steps += back + address(offsets[number]) + as_pointed(kind, length, aligned, pace) if form == "mut" else 0
+                steps += head + address(offsets[number]) + (copied(kind, length, 3, pace) if kind == "bool" else moved(kind, length, aligned, size, pace))
+            steps += back + address(offsets[number]) + moved(kind, length, aligned, size, pace) if form == "mut" else 0
     steps += load(result) if result is not None else 1
     return steps + address(low) + 1 + kept + zeroed(low + above, pace) + 15
 
@@ -149,21 +152,31 @@ def copied(kind, length, each, pace):
         return each * length
     size = pace.round[kind]
     rounds = length // size
-    return loop_end(SIZES[kind] * size * rounds, pace) + (size * each + 3) * rounds + each * (length % size)
+    return loop_end(SIZES[kind] * size * rounds) + (size * each + 3) * rounds + each * (length % size)
 
 
-def loop_end(number, pace):
-    return 1 if pace.near_end and near(number) else constant(number) + 1
+def loop_end(number):
+    return 1 if near(number) else constant(number) + 1
 
 
-def as_pointed(kind, length, aligned, pace):
-    """Elements that are smaller than words are copied by words, from four on, where the pointer is a multiple of 4, and those
-    that are no whole word behind them; else one by one, with a jump over the words. The test takes two steps."""
-    by_word = 4 // SIZES[kind]
-    if by_word == 1 or length < 4 or not pace.by_words:
+def round_of(parameters):
+    """How many words a round of the copier copies: as many as divide those of each array of smaller elements that goes by it."""
+    by_words = [length * SIZES[kind] // 4 for form, kind, length in parameters if goes_by_call(form, kind, length) and kind != "uint32"]
+    return next(size for size in (4, 2, 1) if all(words % size == 0 for words in by_words))
+
+
+def goes_by_call(form, kind, length):
+    return (form == "mut" or form == "fixed" and kind != "bool") and length >= CALLED[kind]
+
+
+def moved(kind, length, aligned, size, pace):
+    """Elements that go as they are: few by code of their own, others by the copier, by words or by bytes, with those behind the
+    call that are no whole round. Call, test and the jump back take five steps, and a jump over the words one."""
+    if length < CALLED[kind] or not pace.copier:
         return copied(kind, length, 2, pace)
-    by_words = copied("uint32", length // by_word, 2, pace) + 2 * (length % by_word)
-    return 2 + (by_words if aligned else copied(kind, length, 2, pace) + 1)
+    rounds, left = divmod(length, size * 4 // SIZES[kind])
+    by_rounds = (2 * size + 3) * rounds if aligned else 5 * 4 * size * rounds + 1
+    return loop_end(4 * size * rounds) + 5 + by_rounds + 2 * left
 
 
 def blocks(number):

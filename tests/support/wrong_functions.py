@@ -4,6 +4,8 @@ import collections
 
 NOTHING = 0x00000013  # addi x0, x0, 0
 LOAD, STORE, NUMBER = 0x03, 0x23, 0x13
+CALL = 0xF6F  # the lower bits of jal x30
+COPIER = "from x5 to x6 up to x7, and back"
 
 
 def immediate_word(opcode, number, rs1, funct3, rd):
@@ -19,6 +21,15 @@ def branch_word(offset, rs2, rs1, funct3):
     return high | rs2 << 20 | rs1 << 15 | funct3 << 12 | (offset >> 1 & 0xF) << 8 | (offset >> 11 & 1) << 7 | 0x63
 
 
+def call_word(offset):
+    return (offset >> 20 & 1) << 31 | (offset >> 1 & 0x3FF) << 21 | (offset >> 11 & 1) << 20 | (offset >> 12 & 0xFF) << 12 | CALL
+
+
+def with_target(word, register):
+    """The word of the same instruction into another register."""
+    return word & ~0xF80 | register << 7
+
+
 def titled(sections, title, last=False):
     found = [section for section in sections if section.title == title]
     return found[-1 if last else 0]
@@ -27,6 +38,19 @@ def titled(sections, title, last=False):
 def exchange(section, word, other):
     """Puts a word in the place of another, which has to be there."""
     section.words[section.words.index(word)] = other
+
+
+def aimed(sections):
+    """The same sections, in which each call of the copier goes there, wherever it is now."""
+    if sections[-1].title != COPIER:
+        return sections
+    at, end = 0, sum(len(section.words) for section in sections[:-1])
+    for section in sections[:-1]:
+        for number, word in enumerate(section.words):
+            if word & 0xFFF == CALL:
+                section.words[number] = call_word(4 * (end - at))
+            at += 1
+    return sections
 
 
 def opcode_of(word):
@@ -78,14 +102,9 @@ def a_bool_is_its_lowest_bit(function):
 
 
 def bytes_are_copied_by_words(function):
-    """The loop over seven bytes, where their pointer is no multiple of 4, copies seven words."""
+    """The test of the places says that both are multiples of 4."""
     sections = function.copies()
-    section = titled(sections, "parameter 7: an array")
-    exchange(section, immediate_word(NUMBER, 7, 0, 0, 7), immediate_word(NUMBER, 28, 0, 0, 7))
-    exchange(section, immediate_word(LOAD, 0, 5, 4, 28), immediate_word(LOAD, 0, 5, 2, 28))
-    exchange(section, store_word(0, 28, 6, 0), store_word(0, 28, 6, 2))
-    for register in (5, 6):
-        exchange(section, immediate_word(NUMBER, 1, register, 0, register), immediate_word(NUMBER, 4, register, 0, register))
+    exchange(titled(sections, COPIER), immediate_word(NUMBER, 3, 28, 7, 28), immediate_word(NUMBER, 0, 28, 7, 28))
     return sections
 
 
@@ -98,37 +117,30 @@ def the_next_stack_argument_is_taken(function):
 
 def one_element_more_is_copied_back(function):
     sections = function.copies()
-    titled(sections, "parameter 1: the array, back").words += [immediate_word(LOAD, 4, 6, 5, 28), store_word(4, 28, 5, 1)]
+    titled(sections, "parameter 1: the array, back").words += [immediate_word(LOAD, 0, 5, 5, 28), store_word(0, 28, 6, 1)]
     return sections
 
 
 def zeros_are_skipped(function):
     sections = function.copies()
-    section = titled(sections, "parameter 1: an array")
-    place = section.words.index(store_word(0, 28, 6, 1))
+    section = titled(sections, "parameter 10: an array")
+    place = section.words.index(store_word(0, 28, 6, 0))
     section.words.insert(place, branch_word(8, 0, 28, 0))
     return sections
 
 
 def a_const_array_is_copied_back(function):
-    """The code that copies it in, with its loads and its stores swapped, once more behind the result."""
+    """The code that copies it in, with its places exchanged, once more behind the result."""
     sections = function.copies()
-    words = list(titled(sections, "parameter 1: an array").words)
-    for offset in range(0, 32, 4):
-        exchange_in(words, immediate_word(LOAD, offset, 5, 2, 28), immediate_word(LOAD, offset, 6, 2, 28))
-        exchange_in(words, store_word(offset, 28, 6, 2), store_word(offset, 28, 5, 2))
-    titled(sections, "the result").words += words
+    pointer, place, *call = titled(sections, "parameter 1: an array").words
+    titled(sections, "the result").words += [with_target(pointer, 6), with_target(place, 5), *call]
     return sections
 
 
-def exchange_in(words, word, other):
-    words[words.index(word)] = other
-
-
 def words_are_copied_from_an_even_address(function):
-    """The test of the pointer asks for a multiple of 2 alone."""
+    """The test of the places asks for multiples of 2 alone."""
     sections = function.copies()
-    exchange(titled(sections, "parameter 6: an array"), immediate_word(NUMBER, 3, 5, 7, 28), immediate_word(NUMBER, 1, 5, 7, 28))
+    exchange(titled(sections, COPIER), immediate_word(NUMBER, 3, 28, 7, 28), immediate_word(NUMBER, 1, 28, 7, 28))
     return sections
 
 
@@ -136,7 +148,7 @@ def the_rest_behind_the_words_is_left_out(function):
     """What is no whole word of five halves: the last load and the last store of the section."""
     sections = function.copies()
     words = titled(sections, "parameter 6: the array, back").words
-    if words[-2:] != [immediate_word(LOAD, 8, 6, 5, 28), store_word(8, 28, 5, 1)]:
+    if words[-2:] != [immediate_word(LOAD, 0, 5, 5, 28), store_word(0, 28, 6, 1)]:
         raise ValueError("the last element is copied otherwise")
     words[-2:] = [NOTHING, NOTHING]
     return sections
@@ -155,14 +167,19 @@ ALL = [
     Wrong("swap2", "the slots are zeroed before an array is copied back", slots_are_zeroed_before_copying_back, None),
     Wrong("add_one", "x28 is not cleared", x28_is_not_cleared, None),
     Wrong("pick", "a bool is its lowest bit", a_bool_is_its_lowest_bit, None),
-    Wrong("mixed", "an array of bytes is copied by words", bytes_are_copied_by_words, LIST),
+    Wrong("mixed", "an array of bytes is copied by words", bytes_are_copied_by_words, MISALIGNED),
     Wrong("mixed", "words are copied from an even address", words_are_copied_from_an_even_address, MISALIGNED),
     Wrong("mixed", "the rest behind the words is left out", the_rest_behind_the_words_is_left_out, None),
     Wrong("mixed", "the first argument on the stack is taken from the next place", the_next_stack_argument_is_taken, None),
     Wrong("swap2", "one element more is copied back", one_element_more_is_copied_back, None),
-    Wrong("swap2", "elements that are 0 are not copied", zeros_are_skipped, LIST),
+    Wrong("mixed", "elements that are 0 are not copied", zeros_are_skipped, LIST),
     Wrong("table_lookup", "a const array is copied back", a_const_array_is_copied_back, None),
 ]
+
+
+def made(wrong, function):
+    """The sections of the function with this fault."""
+    return aimed(wrong.make(function))
 
 
 def text(function, sections):

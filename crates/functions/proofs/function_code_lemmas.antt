@@ -1,5 +1,7 @@
 pub mod BodyLemmas
 pub mod ElementLemmas
 pub mod ZeroLemmas
-pub mod ArrayLemmas
 pub mod ArgumentLemmas
+pub mod DistanceLemmas
+pub mod WordLemmas
+pub mod CallLemmas

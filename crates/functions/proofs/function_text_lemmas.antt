@@ -3,4 +3,5 @@ pub mod AssembledLemmas
 pub mod FunctionLemmas
 pub mod TextLaws
 pub mod WordLines
+pub mod SectionTexts
 pub mod LinkedLemmas

@@ -9,8 +9,10 @@ pub use Rattle.rv_code.specs.Words.{IsInstr}
 unfoldable pub use Rattle.rv_code.specs.Words.{word_of}
 pub use Rattle.rv_code.specs.declared.instructions.Instr.{Instr}
 pub use Rattle.rv_code.specs.declared.instructions.Instr.TheVariants.{Branch, Fence, Jump, JumpRegister, Load}
-pub use Rattle.rv_code.specs.declared.instructions.Instr.TheVariants.{Register, Store}
-pub use Rattle.rv_code.specs.declared.operations.RegisterOperation.TheVariants.{Add, Sub}
+pub use Rattle.rv_code.specs.declared.instructions.Instr.TheVariants.{Immediate, Register, Store}
+pub use Rattle.rv_code.specs.declared.operations.BranchTest.TheVariants.{Beq}
+pub use Rattle.rv_code.specs.declared.operations.ImmediateOperation.TheVariants.{Andi}
+pub use Rattle.rv_code.specs.declared.operations.RegisterOperation.TheVariants.{Add, Or, Sub}
 pub use Rattle.rv_machine.specs.Effects.{branch_target, jump_target}
 pub use Rattle.language.specs.Signature.{exported, param_of}
 pub use Rattle.language.specs.Tree.{parameter_tree, ParameterTree, procedure_tree, ProcedureTree, program_tree}
@@ -25,6 +27,7 @@ pub use Rattle.language.specs.declared.signature.Form.TheVariants.{FixedArray, M
 pub use Rattle.codegen.specs.Anywhere.{body_words}
 pub use Rattle.codegen.specs.expression_code.TermCode.{constant_code, load_by}
 pub use Rattle.codegen.specs.image_fields.Fields.{Fields}
+pub use Rattle.codegen.specs.program_logic.Jumps.{over}
 pub use Rattle.syntax.specs.Spelling.{is_name_or_keyword, is_word_byte}
 pub use Rattle.hepurita.specs.Built.{accepts, fine, IsCompilation, Judges, readable}
 pub use Rattle.hepurita.specs.declared.optimised.Optimisation.{Optimisation}
@@ -38,12 +41,14 @@ pub use Rattle.linked_calls.specs.FunctionCode.{stacked_code, stacked_offset}
 pub use Rattle.linked_calls.specs.FunctionCode.{all_fit, are_few, blank_code, fits_frame, kept_of, lowered_code}
 pub use Rattle.linked_calls.specs.Written.{has_destination, is_written, writes, written_of}
 pub use Rattle.linked_calls.specs.FunctionCode.{clear_registers_code, copied_code, copied_in_code, copied_out_code}
-pub use Rattle.linked_calls.specs.FunctionCode.{array_code, by_alignment_code, by_words_code, elements_code}
-pub use Rattle.linked_calls.specs.FunctionCode.{bound_code, far_code, goes_in_by_words, goes_out_by_words, passed_count}
-pub use Rattle.linked_calls.specs.Paces.{few_elements, may_go_by_words, most_blanks, per_round, run_words}
+pub use Rattle.linked_calls.specs.FunctionCode.{array_code, bound_code, by_alignment_code, call_code, called_code}
+pub use Rattle.linked_calls.specs.FunctionCode.{copier_code, copier_of, divides, divides_all, elements_code, far_code}
+pub use Rattle.linked_calls.specs.FunctionCode.{goes_as_it_is, goes_by_call, goes_in_as_it_is, in_round, is_any_worth}
+pub use Rattle.linked_calls.specs.FunctionCode.{is_near, is_worth, is_worth_a_call, loop_code, per_word, round_of}
+pub use Rattle.linked_calls.specs.Paces.{few_elements, least_for_call, most_blanks, own_round, run_words, times}
 pub use Rattle.linked_calls.specs.FunctionCode.{copy_in_code, copy_out_code, down_code, element_meant_code}
 pub use Rattle.linked_calls.specs.FunctionCode.{frame_room, loads_code}
-pub use Rattle.linked_calls.specs.FunctionCode.{meant_code, next_code, places_code, rest_words, result_code, room_of}
+pub use Rattle.linked_calls.specs.FunctionCode.{meant_code, next_code, rest_words, result_code, room_of}
 pub use Rattle.linked_calls.specs.FunctionCode.{rounds_code, run_count, runs_code}
 pub use Rattle.linked_calls.specs.FunctionCode.{store_by, stores_code}
 pub use Rattle.linked_calls.specs.FunctionCode.{until_equal, up_code, wipe_code, word_code, zeros_code}
@@ -51,4 +56,4 @@ unfoldable pub use Rattle.linked_calls.specs.FunctionCode.{function_words}
 pub use Rattle.linked_calls.specs.FunctionCode.{is_open, is_skipped}
 pub use Rattle.linked_calls.specs.Sections.{argument_section}
 pub use Rattle.linked_calls.specs.Sections.{argument_sections, array_section, array_sections, code_of, enter_sections}
-pub use Rattle.linked_calls.specs.Sections.{frame_sections, leave_sections, section_code}
+pub use Rattle.linked_calls.specs.Sections.{copier_sections, frame_sections, leave_sections, section_code}

@@ -4,6 +4,7 @@
 
 mod arrays;
 mod blank;
+mod copier;
 mod copying;
 mod entering;
 mod kept;
@@ -15,6 +16,9 @@ mod sections;
 mod words;
 mod zeroing;
 
-pub use room::{Around, above_frame, room_of};
-pub use sections::{enter_sections, leave_sections, section_code};
-pub use words::{body, function_words};
+pub use pieces::wrapped;
+pub use room::{Around, above_frame, around_body, room_of};
+pub use sections::{
+    copier_sections, enter_sections, leave_sections, next_code, section_code, sections_length,
+};
+pub use words::{body, from_body, function_words};

@@ -1,10 +1,10 @@
--- Of two pieces one, as a pointer in x5 is: a test of its two lowest bits, and the first piece where it is no multiple
--- of 4, or the second where it is. Which of them is run is known before any state is, since the pointer is.
-use Rattle.std.specs.Prelude.{bit_and}
+-- Of two pieces one, as a pointer is: a test of the two lowest bits of x5 and x6, and the first piece where one of them
+-- is no multiple of 4, or the second where both are. Which of them is run is known before any state is, since the
+-- pointer is.
+use Rattle.std.specs.Prelude.{bit_and, bit_or}
 use Rattle.std.proofs.Common.{◌≡◌, ◌≢◌, ℕ, ◌+◌, ◌*◌, ◌%◌, ◌^◌, ◌<◌, ◌==◌, List, [], ◌∷◌, ◌++◌, length, refl, sym, ap}
 use Rattle.std.proofs.Common.{ap₂, ◌∙◌, subst, arith, length-append, eq-eqb, ne_eqb}
 use Rattle.std.proofs.lemmas.Bool.Decides.{nat_tests}
-use Rattle.std.proofs.lemmas.Nat.{and_mask}
 use Rattle.codegen.proofs.program_logic_lemmas.Counted.{computes_runs, in_steps, makes_then, Runs, Setting}
 use Rattle.codegen.proofs.program_logic_lemmas.Counted.{weaken_runs}
 use Rattle.codegen.proofs.program_logic_lemmas.Jumps.{over_ends, shown_at, taken_ends, untaken_ends}
@@ -14,7 +14,8 @@ use Rattle.codegen.specs.program_logic.Pieces.{always, both, Still}
 use Rattle.codegen.specs.program_logic.Placed.{Placed}
 use Rattle.codegen.specs.program_logic.StraightCode.{contents_of}
 use Rattle.linked_calls.proofs.Below.{by_alignment_code, ByteMap, Data, Instr, State, with_register, with_result}
-use Rattle.linked_calls.specs.Below.{Andi, Beq, Branch, Immediate, over}
+use Rattle.linked_calls.proofs.Parts.{overwritten}
+use Rattle.linked_calls.specs.Below.{Andi, Beq, Branch, Immediate, Or, over, Register}
 use Rattle.rv_machine.specs.Effects.{branch_target}
 
 -- a branch over so many instructions
@@ -27,9 +28,9 @@ same_data s t still =
     ap₂ (λ (regs : ℕ → ℕ) (bytes : ByteMap). contents_of (record { pc = 0; regs = regs; bytes = bytes }))
     (sym still.regs) (sym still.bytes)
 
--- x5 is a pointer, and more holds, which does not hang on x28
+-- the two lowest bits of x5 and x6 are those of a pointer, and more holds, which does not hang on x28
 pub record TestsPointer (pointer : ℕ) (P : Data → Type 0) : Type 0 where
-  pub is : (s : Data) → P s → s.regs 5 ≡ pointer % 2 ^ 32
+  pub is : (s : Data) → P s → bit_and (bit_or (s.regs 5) (s.regs 6)) 3 ≡ pointer % 4
   pub still : (s : Data) (v : ℕ) → P s → P (with_result 28 v s)
 
 module _ (z : Setting) (xs ys : List Instr) (short : length xs < 512) (near : length ys < 512) where
@@ -119,37 +120,36 @@ module _ (z : Setting) (xs ys : List Instr) (short : length xs < 512) (near : le
     holds : P s
 
   abbrev tested : Data → Data
-  tested s = with_result 28 (bit_and (s.regs 5) 3) s
+  tested s = with_result 28 (bit_and (bit_or (s.regs 5) (s.regs 6)) 3) s
 
   module _ (pointer : ℕ) {P : Data → Type 0} {R : Data → Data → Type 0} (tests : TestsPointer pointer P)
       (hides : (s t : Data) (v : ℕ) → P s → R (with_result 28 v s) t → R s t) where
-    test_runs : Runs z 1 (Immediate Andi 28 5 3 ∷ []) P (λ s t. t ≡ tested s)
-    test_runs = computes_runs z (λ q. q == 28) (Immediate Andi 28 5 3 ∷ [])
-        (λ regs. with_register regs 28 (bit_and (regs 5) 3)) refl (λ regs. refl)
+    test_runs : Runs z 2 (Register Or 28 5 6 ∷ Immediate Andi 28 28 3 ∷ []) P (λ s t. t ≡ tested s)
+    test_runs = computes_runs z (λ q. q == 28) (Register Or 28 5 6 ∷ Immediate Andi 28 28 3 ∷ [])
+        (λ regs. with_register regs 28 (bit_and (bit_or (regs 5) (regs 6)) 3)) refl
+        (λ regs. overwritten regs 28 (bit_or (regs 5) (regs 6)) (bit_and (bit_or (regs 5) (regs 6)) 3))
 
     tests_it : (s : Data) → P s → Tested pointer P (tested s)
-    tests_it s given =
-        let four : pointer % 2 ^ 32 % 4 ≡ pointer % 4 = omega arith in
-        record {
-          left_over = and_mask (s.regs 5) 2 ∙ ap (λ x. x % 4) (tests.is s given) ∙ four;
-          holds = tests.still s (bit_and (s.regs 5) 3) given;
-        }
+    tests_it s given = record {
+      left_over = tests.is s given;
+      holds = tests.still s (bit_and (bit_or (s.regs 5) (s.regs 6)) 3) given;
+    }
 
-    pub aligned_runs : {n : ℕ} → pointer % 4 ≡ 0 → Runs z n ys P R → Runs z (2 + n) (by_alignment_code xs ys) P R
+    pub aligned_runs : {n : ℕ} → pointer % 4 ≡ 0 → Runs z n ys P R → Runs z (3 + n) (by_alignment_code xs ys) P R
     aligned_runs {n = n} even two =
-        let all : 1 + (1 + n) ≡ 2 + n = omega arith in
+        let all : 2 + (1 + n) ≡ 3 + n = omega arith in
         in_steps z all
         (makes_then z {P = P} {P' = Tested pointer P} {f = tested} {R = R} {S = R} test_runs
         (second_runs {P = Tested pointer P} {R = R} (λ s held. held.left_over ∙ even)
         (weaken_runs z {P' = Tested pointer P} {R' = R} two (λ s held. held.holds) (λ s t held done. done)))
-        tests_it (λ s u given done. hides s u (bit_and (s.regs 5) 3) given done))
+        tests_it (λ s u given done. hides s u (bit_and (bit_or (s.regs 5) (s.regs 6)) 3) given done))
 
     pub unaligned_runs : {n : ℕ} → pointer % 4 ≢ 0 → Runs z n xs P R
-        → Runs z (2 + (n + 1)) (by_alignment_code xs ys) P R
+        → Runs z (3 + (n + 1)) (by_alignment_code xs ys) P R
     unaligned_runs {n = n} odd one =
-        let all : 1 + (1 + (n + 1)) ≡ 2 + (n + 1) = omega arith in
+        let all : 2 + (1 + (n + 1)) ≡ 3 + (n + 1) = omega arith in
         in_steps z all
         (makes_then z {P = P} {P' = Tested pointer P} {f = tested} {R = R} {S = R} test_runs
         (first_runs {P = Tested pointer P} {R = R} (λ s held same. odd (sym held.left_over ∙ same))
         (weaken_runs z {P' = Tested pointer P} {R' = R} one (λ s held. held.holds) (λ s t held done. done)))
-        tests_it (λ s u given done. hides s u (bit_and (s.regs 5) 3) given done))
+        tests_it (λ s u given done. hides s u (bit_and (bit_or (s.regs 5) (s.regs 6)) 3) given done))

@@ -5,13 +5,14 @@ use Rattle.std.proofs.Common.{◌≡◌, ◌≢◌, ℕ, zero, suc, ◌+◌, ◌
 use Rattle.std.proofs.Common.{inl, inr, refl, Bool, true, false, nat_lt, if◌then◌else◌, sym, ap, ◌∙◌, subst, arith}
 use Rattle.std.proofs.lemmas.Bool.{and_parts, false≢true, ltb-true}
 use Rattle.std.proofs.lemmas.List.{length-map}
-use Rattle.codegen.proofs.program_logic_lemmas.Counted.{no_code, Runs, Setting, then_runs, weaken_runs}
+use Rattle.codegen.proofs.program_logic_lemmas.Counted.{no_code, Runs, Setting, weaken_runs}
 use Rattle.linked_calls.proofs.Below.{AreBytes, AreData, Arg, argument_code, argument_of, argument_offset}
 use Rattle.linked_calls.proofs.Below.{argument_register, argument_registers, arguments_code, arguments_end}
 use Rattle.linked_calls.proofs.Below.{arguments_from, Array, array_bytes, ByteMap, CanBeCopied, CanBePut, MachineCode}
 use Rattle.linked_calls.proofs.Below.{Data, element_bytes, elements_at, Fields, FixedArray, Form, frame_room, HasArray}
 use Rattle.linked_calls.proofs.Below.{is_some-with_number, IsBesides, IsOfCall, IsOnStack, IsReadable, LiesIn, meant}
 use Rattle.linked_calls.proofs.Below.{MutableArray, number_at, number_at_same, passed_in, place_before, place_behind}
+use Rattle.linked_calls.proofs.Below.{Placed, Placed-left, Placed-right}
 use Rattle.linked_calls.proofs.Below.{Pointed, ReadsAnArray, room_base, SingleWord, CallSite, Size, Slot, State}
 use Rattle.linked_calls.proofs.Below.{stacked_offset, with_argument, with_arguments, with_numbers}
 use Rattle.linked_calls.proofs.Below.{argument_steps, taken_steps, with_number_outside, WritesAnArray}
@@ -25,7 +26,9 @@ use Rattle.linked_calls.proofs.ByteData.{number_stays, numbers_stay}
 use Rattle.linked_calls.proofs.Bytes.{is_some-with_numbers}
 use Rattle.linked_calls.proofs.Copies.{taken_runs as copies_run}
 use Rattle.linked_calls.proofs.MovedBytes.{meant_same, numbers_moved, one_moved}
-use Rattle.linked_calls.specs.FunctionCode.{is_open, is_skipped}
+use Rattle.linked_calls.proofs.PlacedRuns.{behind_first, here, RunsHere, then_here, weaken_here}
+use Rattle.linked_calls.specs.Copies.{CopierStands}
+use Rattle.linked_calls.specs.FunctionCode.{copier_of, is_open, is_skipped, needed_code}
 use Rattle.linked_calls.proofs.Passed.{Passes, array_outside}
 use Rattle.linked_calls.proofs.SavedRegisters.{registers_from}
 use Rattle.linked_calls.proofs.SectionSteps.{arguments_steps}
@@ -40,10 +43,10 @@ call_setting image code site = record { code = code; allowed = IsOfCall image si
 
 -- what the code of arrays writes, and that of arguments
 abbrev pub copying_registers : List ℕ
-copying_registers = 5 ∷ 6 ∷ 7 ∷ 28 ∷ []
+copying_registers = 5 ∷ 6 ∷ 7 ∷ 28 ∷ 30 ∷ []
 
 abbrev pub taking_registers : List ℕ
-taking_registers = 5 ∷ 6 ∷ 7 ∷ 28 ∷ argument_registers
+taking_registers = 5 ∷ 6 ∷ 7 ∷ 28 ∷ 30 ∷ argument_registers
 
 -- An argument at its slot.
 
@@ -256,7 +259,7 @@ module _ (image : Fields) (site : CallSite) where
   none_taking i q none = by (nat_lt i 8) refl
     where
       by : (b : Bool) → nat_lt i 8 ≡ b → q ≢ (if b then 10 + i else 5)
-      by true h = none_from 10 8 i q none.1.1.1.1 (ltb-true i 8 h)
+      by true h = none_from 10 8 i q none.1.1.1.1.1 (ltb-true i 8 h)
       by false h = none.0
 
   other_register : (i j : ℕ) → i < j → 10 + j ≢ argument_register i
@@ -274,7 +277,8 @@ module _ (image : Fields) (site : CallSite) where
       by false h = λ e. omega arith
 
   none_copying : (j : ℕ) → j < 8 → IsNone copying_registers (10 + j)
-  none_copying j few = (λ e. omega arith, (λ e. omega arith, (λ e. omega arith, (λ e. omega arith, tt))))
+  none_copying j few =
+      (λ e. omega arith, (λ e. omega arith, (λ e. omega arith, (λ e. omega arith, (λ e. omega arith, tt)))))
 
   -- One after another.
 
@@ -350,29 +354,36 @@ module _ (image : Fields) (site : CallSite) where
         (numbers_same s.bytes d.bytes (element_bytes slot.param.kind) (site.pointers i) slot.param.length
         (λ x from to. passes.outside x (array_outside image site i slot readable x from to)))
 
-    array_runs : (pace : Pace) (i : ℕ) (slot : Slot) → i < length image.slots → KnownArray i slot
-        → Runs z (taken_steps image pace i slot (site.pointers i)) (argument_code image pace i slot FixedArray)
-        (TakingBegins i (λ s. IsPassed site s i slot FixedArray)) (TakesOne false i slot FixedArray)
-    array_runs pace i slot few known =
+    array_here : (pace : Pace) (p behind i : ℕ) (slot : Slot) → i < length image.slots → KnownArray i slot
+        → Placed code p (argument_code image pace behind i slot FixedArray)
+        → CopierStands code (p + 4 * length (argument_code image pace behind i slot FixedArray)) behind
+        (copier_of image pace)
+        → RunsHere z p (taken_steps image pace i slot (site.pointers i))
+        (argument_code image pace behind i slot FixedArray) (TakingBegins i (λ s. IsPassed site s i slot FixedArray))
+        (TakesOne false i slot FixedArray)
+    array_here pace p behind i slot few known stands shared =
         let at = room_base image site + slot.offset in
-        weaken_runs z {P' = TakingBegins i (λ s. IsPassed site s i slot FixedArray)} {R' = TakesOne false i slot FixedArray}
+        weaken_here z {P' = TakingBegins i (λ s. IsPassed site s i slot FixedArray)} {R' = TakesOne false i slot FixedArray}
         (copies_run image slot (spot_at i) known.can z (stacked_allowed i few)
         (λ a size lies. inr (known.reads a size lies))
         (λ a size lies. inl (on_stack at (array_bytes slot) (omega arith)
-        (slot_within slot (array_bytes slot) known.inside) a size lies)) pace)
+        (slot_within slot (array_bytes slot) known.inside) a size lies)) pace p behind stands shared)
         (array_begins i slot few known)
         (λ d t begins copied. record {
           bytes = λ s passes. copied.bytes ∙ array_is i slot known.readable s d passes;
-          others = λ q none other. copied.others q none.0 none.1.0 none.1.1.0 none.1.1.1.0;
+          others = λ q none other. copied.others q none.0 none.1.0 none.1.1.0 none.1.1.1.0 none.1.1.1.1.0;
         })
 
-    argument_runs : (pace : Pace) (i : ℕ) (slot : Slot) (form : Form) → i < length image.slots → IsKnown i slot form
-        → Runs z (argument_steps image pace site.pointers i slot form) (argument_code image pace i slot form)
+    argument_here : (pace : Pace) (p behind i : ℕ) (slot : Slot) (form : Form) → i < length image.slots → IsKnown i slot form
+        → Placed code p (argument_code image pace behind i slot form)
+        → CopierStands code (p + 4 * length (argument_code image pace behind i slot form)) behind (copier_of image pace)
+        → RunsHere z p (argument_steps image pace site.pointers i slot form) (argument_code image pace behind i slot form)
         (TakingBegins i (λ s. IsPassed site s i slot form)) (TakesOne false i slot form)
-    argument_runs pace i slot SingleWord few known =
+    argument_here pace p behind i slot SingleWord few known stands shared =
         let under = room in
         let ends = slot_within slot 4 known.inside in
-        weaken_runs z {P' = TakingBegins i (λ s. IsPassed site s i slot SingleWord)} {R' = TakesOne false i slot SingleWord}
+        here z stands
+        (weaken_runs z {P' = TakingBegins i (λ s. IsPassed site s i slot SingleWord)} {R' = TakesOne false i slot SingleWord}
         (word_runs z image slot (room_base image site) i known.can (stacked_allowed i few)
         (inl ((omega arith, omega arith), omega arith)))
         (λ d begins. record {
@@ -385,11 +396,12 @@ module _ (image : Fields) (site : CallSite) where
               ∙ ap (λ (o : Option ℕ). with_argument (room_base image site) d.bytes slot
               (Word (meant slot.param.kind (unwrap_or o 0)))) (passes.raw i (omega arith) few);
           others = λ q none other. put.others q other none.1.1.1.0;
-        })
-    argument_runs pace i slot FixedArray few known = array_runs pace i slot few known
-    argument_runs pace i slot MutableArray few known =
-        weaken_runs z {P' = TakingBegins i (λ s. IsPassed site s i slot MutableArray)}
-        {R' = TakesOne false i slot MutableArray} (array_runs pace i slot few known.known)
+        }))
+    argument_here pace p behind i slot FixedArray few known stands shared =
+        array_here pace p behind i slot few known stands shared
+    argument_here pace p behind i slot MutableArray few known stands shared =
+        weaken_here z {P' = TakingBegins i (λ s. IsPassed site s i slot MutableArray)}
+        {R' = TakesOne false i slot MutableArray} (array_here pace p behind i slot few known.known stands shared)
         (λ d begins. record {
           stack = begins.stack;
           bytes = begins.bytes;
@@ -414,29 +426,41 @@ module _ (image : Fields) (site : CallSite) where
           others = λ q none other. refl;
         })
 
-    needed_runs : (pace : Pace) (skipped : Bool) (i : ℕ) (slot : Slot) (form : Form) → i < length image.slots → IsKnown i slot form
-        → (skipped ≡ true → is_open form slot.param.kind ≡ true)
-        → Runs z (if skipped then 0 else argument_steps image pace site.pointers i slot form)
-        (if skipped then [] else argument_code image pace i slot form)
+    needed_here : (pace : Pace) (skipped : Bool) (p behind i : ℕ) (slot : Slot) (form : Form) → i < length image.slots
+        → IsKnown i slot form → (skipped ≡ true → is_open form slot.param.kind ≡ true)
+        → Placed code p (if skipped then [] else argument_code image pace behind i slot form)
+        → CopierStands code (p + 4 * length (if skipped then [] else argument_code image pace behind i slot form)) behind
+        (copier_of image pace)
+        → RunsHere z p (if skipped then 0 else argument_steps image pace site.pointers i slot form)
+        (if skipped then [] else argument_code image pace behind i slot form)
         (TakingBegins i (λ s. IsPassed site s i slot form)) (TakesOne skipped i slot form)
-    needed_runs pace true i slot form few known opens = skipped_runs i slot form known (opens refl)
-    needed_runs pace false i slot form few known opens = argument_runs pace i slot form few known
+    needed_here pace true p behind i slot form few known opens stands shared =
+        here z stands (skipped_runs i slot form known (opens refl))
+    needed_here pace false p behind i slot form few known opens stands shared =
+        argument_here pace p behind i slot form few known stands shared
 
     -- all of them
-    pub arguments_runs : (pace : Pace) (spared : List Bool) (i : ℕ) (slots : List Slot) → i + length slots ≡ length image.slots
-        → AreKnown i slots
-        → Runs z (arguments_steps image pace site.pointers spared i slots) (arguments_code image pace spared i slots)
+    pub arguments_here : (pace : Pace) (spared : List Bool) (p behind i : ℕ) (slots : List Slot)
+        → i + length slots ≡ length image.slots → AreKnown i slots
+        → Placed code p (arguments_code image pace spared behind i slots)
+        → CopierStands code p (length (arguments_code image pace spared behind i slots) + behind) (copier_of image pace)
+        → RunsHere z p (arguments_steps image pace site.pointers spared i slots)
+        (arguments_code image pace spared behind i slots)
         (TakingBegins i (λ s. ArePassed site s i slots)) (TakesAll spared i slots)
-    arguments_runs pace spared i [] count known =
-        no_code z (λ d begins. record { bytes = λ s passes. refl; others = λ q none. refl })
-    arguments_runs pace spared i (slot ∷ slots) count known =
+    arguments_here pace spared p behind i [] count known stands shared =
+        here z stands (no_code z (λ d begins. record { bytes = λ s passes. refl; others = λ q none. refl }))
+    arguments_here pace spared p behind i (slot ∷ slots) count known stands shared =
         let form = slot.param.form in
         let skipped = is_skipped spared i slot in
         let under = room in
-        then_runs z
-        (weaken_runs z {P' = TakingBegins i (λ s. ArePassed site s i (slot ∷ slots))} {R' = TakesOne skipped i slot form}
-        (needed_runs pace skipped i slot form (omega arith) known.0
-        (λ is. (and_parts (unwrap_or (slice_get spared i) false) (is_open form slot.param.kind) is).1))
+        let rest = arguments_code image pace spared behind (i + 1) slots in
+        let one = needed_code image pace spared (length rest + behind) i slot in
+        let later = behind_first code p one rest behind (copier_of image pace) shared in
+        then_here z {xs = one} {ys = rest}
+        (weaken_here z {P' = TakingBegins i (λ s. ArePassed site s i (slot ∷ slots))} {R' = TakesOne skipped i slot form}
+        (needed_here pace skipped p (length rest + behind) i slot form (omega arith) known.0
+        (λ is. (and_parts (unwrap_or (slice_get spared i) false) (is_open form slot.param.kind) is).1)
+        (Placed-left code p one rest stands) later)
         (λ d begins. record {
           stack = begins.stack;
           bytes = begins.bytes;
@@ -446,7 +470,8 @@ module _ (image : Fields) (site : CallSite) where
           given = begins.given.0;
         })
         (λ d t begins takes. takes))
-        (arguments_runs pace spared (i + 1) slots (omega arith) known.1)
+        (arguments_here pace spared (p + 4 * length one) behind (i + 1) slots (omega arith) known.1
+        (Placed-right code p one rest stands) later)
         (λ d t begins takes.
         let s = begins.call in
         let made = takes.bytes s begins.passes in
@@ -463,5 +488,6 @@ module _ (image : Fields) (site : CallSite) where
           bytes = λ s passes. more.bytes s (passes_on skipped i slot form known.0 s d t passes takes)
               ∙ ap (λ (b : ByteMap). all_taken s spared b (i + 1) slots) (takes.bytes s passes);
           others = λ q none. more.others q none
-              ∙ takes.others q (none.0, (none.1.0, (none.1.1.0, (none.1.1.1.0, tt)))) (none_taking i q none);
+              ∙ takes.others q (none.0, (none.1.0, (none.1.1.0, (none.1.1.1.0, (none.1.1.1.1.0, tt)))))
+              (none_taking i q none);
         })

@@ -3,10 +3,11 @@
 use Rattle.std.specs.Prelude.{is_some}
 use Rattle.std.proofs.Common.{◌≡◌, ℕ, ◌+◌, ◌*◌, ◌<◌, ◌≤◌, List, [], ◌∷◌, ◌++◌, length, inl, inr, refl, sym, ap, ap₂}
 use Rattle.std.proofs.Common.{◌∙◌, subst, arith}
-use Rattle.codegen.proofs.program_logic_lemmas.Counted.{no_code, Runs, Setting, then_runs, weaken_runs}
+use Rattle.codegen.proofs.program_logic_lemmas.Counted.{no_code, Setting}
 use Rattle.linked_calls.proofs.Below.{AreBytes, AreData, argument_offset, arguments_end, Data, array_bytes, array_in, arrays_behind}
 use Rattle.linked_calls.proofs.Below.{arrays_in, ByteMap, MachineCode, copy_out_code, element_bytes, elements_at, Fields, FixedArray, Form}
-use Rattle.linked_calls.proofs.Below.{IsBesides, IsOnStack, MutableArray, results_code, room_base, SingleWord, CallSite}
+use Rattle.linked_calls.proofs.Below.{IsBesides, IsOnStack, MutableArray, Placed, Placed-left, Placed-right}
+use Rattle.linked_calls.proofs.Below.{results_code, room_base, SingleWord, CallSite}
 use Rattle.linked_calls.proofs.Below.{Size, Slot, with_array, with_arrays, with_numbers}
 use Rattle.linked_calls.proofs.AllArguments.{AreKnown, ArgumentsBegin, IsKnown, copying_registers}
 use Rattle.linked_calls.proofs.AllArguments.{call_setting, on_stack, place_allowed, slot_within, spot_at}
@@ -16,9 +17,12 @@ use Rattle.linked_calls.proofs.ByteData.{numbers_stay}
 use Rattle.linked_calls.proofs.Bytes.{numbers_same}
 use Rattle.linked_calls.proofs.Copies.{handed_runs as handed_by}
 use Rattle.linked_calls.proofs.SectionSteps.{output_steps, outputs_steps}
+use Rattle.linked_calls.proofs.PlacedRuns.{behind_first, here, RunsHere, then_here, weaken_here}
 use Rattle.linked_calls.proofs.Rooms.{RoomNumbers}
 use Rattle.linked_calls.proofs.SameRegisters.{IsNone, same_beside}
 use Rattle.linked_calls.proofs.Staying.{stay_ready}
+use Rattle.linked_calls.specs.Copies.{CopierStands}
+use Rattle.linked_calls.specs.FunctionCode.{copier_of}
 use Rattle.linked_calls.specs.declared.pace.Pace.{Pace}
 
 -- the bytes are those that a function gives, and no register has changed but those that copying writes
@@ -55,19 +59,21 @@ module _ (image : Fields) (code : MachineCode) (site : CallSite) (numbers : Room
   longer : (a : ℕ) (size : Size) → IsOnStack base site.stack base a size → IsOnStack base end base a size
   longer a size lies = ((lies.0.0, omega (arith, lies.0.1)), lies.1)
 
-  output_runs : (pace : Pace) (i : ℕ) (slot : Slot) (form : Form) → IsKnown image site i slot form
-      → Runs z (output_steps image pace site.pointers i slot form) (copy_out_code image pace i slot form)
+  output_here : (pace : Pace) (p behind i : ℕ) (slot : Slot) (form : Form) → IsKnown image site i slot form
+      → Placed code p (copy_out_code image pace behind i slot form)
+      → CopierStands code (p + 4 * length (copy_out_code image pace behind i slot form)) behind (copier_of image pace)
+      → RunsHere z p (output_steps image pace site.pointers i slot form) (copy_out_code image pace behind i slot form)
       (ArgumentsBegin image site (λ bytes. IsReady image site bytes i slot form))
       (HandsBack (λ s. handed s.bytes i slot form))
-  output_runs pace i slot MutableArray known =
-      weaken_runs z {P' = ArgumentsBegin image site (λ bytes. IsReady image site bytes i slot MutableArray)}
+  output_here pace p behind i slot MutableArray known stands shared =
+      weaken_here z {P' = ArgumentsBegin image site (λ bytes. IsReady image site bytes i slot MutableArray)}
       {R' = HandsBack (λ s. handed s.bytes i slot MutableArray)}
       (handed_by image pace slot (spot_at image site i) known.back z
       (place_allowed image site code numbers (argument_offset image i) known.place.inside)
       (λ a size lies.
       inl (longer a size (on_stack image site code numbers (base + slot.offset) (array_bytes slot) (omega arith)
       (slot_within image site code numbers slot (array_bytes slot) known.known.inside) a size lies)))
-      (λ a size lies. inr (known.writes a size lies)))
+      (λ a size lies. inr (known.writes a size lies)) p behind stands shared)
       (λ s begins.
       let under = numbers.arguments in
       record {
@@ -80,9 +86,10 @@ module _ (image : Fields) (code : MachineCode) (site : CallSite) (numbers : Room
       })
       (λ s t begins back. record {
         bytes = back.bytes;
-        others = λ q none. back.others q none.0 none.1.0 none.1.1.0 none.1.1.1.0;
+        others = λ q none. back.others q none.0 none.1.0 none.1.1.0 none.1.1.1.0 none.1.1.1.1.0;
       })
-  output_runs pace i slot form known = no_code z (λ s begins. record { bytes = refl; others = λ q none. refl })
+  output_here pace p behind i slot form known stands shared =
+      here z stands (no_code z (λ s begins. record { bytes = refl; others = λ q none. refl }))
 
   -- Only arrays change, and what is data stays data.
 
@@ -167,16 +174,23 @@ module _ (image : Fields) (code : MachineCode) (site : CallSite) (numbers : Room
       ∙ ap₂ (λ (b : ByteMap) (arrays : List (List ℕ)). with_arrays site b (i + 1) slots arrays)
       (sym (one_handed bytes i slot form rest)) (sym (one_behind bytes slot form rest))
 
-  handed_runs : (pace : Pace) (i : ℕ) (slots : List Slot) → i + length slots ≡ length image.slots → AreKnown image site i slots
-      → Runs z (outputs_steps image pace site.pointers i slots) (results_code image pace i slots)
+  handed_here : (pace : Pace) (p behind i : ℕ) (slots : List Slot) → i + length slots ≡ length image.slots
+      → AreKnown image site i slots → Placed code p (results_code image pace behind i slots)
+      → CopierStands code p (length (results_code image pace behind i slots) + behind) (copier_of image pace)
+      → RunsHere z p (outputs_steps image pace site.pointers i slots) (results_code image pace behind i slots)
       (ArgumentsBegin image site (λ bytes. AreReady image site bytes i slots))
       (HandsBack (λ s. all_handed s.bytes i slots))
-  handed_runs pace i [] count known = no_code z (λ s begins. record { bytes = refl; others = λ q none. refl })
-  handed_runs pace i (slot ∷ slots) count known =
+  handed_here pace p behind i [] count known stands shared =
+      here z stands (no_code z (λ s begins. record { bytes = refl; others = λ q none. refl }))
+  handed_here pace p behind i (slot ∷ slots) count known stands shared =
       let form = slot.param.form in
-      then_runs z
-      (weaken_runs z {P' = ArgumentsBegin image site (λ bytes. AreReady image site bytes i (slot ∷ slots))}
-      {R' = HandsBack (λ s. handed s.bytes i slot form)} (output_runs pace i slot form known.0)
+      let rest = results_code image pace behind (i + 1) slots in
+      let one = copy_out_code image pace (length rest + behind) i slot form in
+      let later = behind_first code p one rest behind (copier_of image pace) shared in
+      then_here z {xs = one} {ys = rest}
+      (weaken_here z {P' = ArgumentsBegin image site (λ bytes. AreReady image site bytes i (slot ∷ slots))}
+      {R' = HandsBack (λ s. handed s.bytes i slot form)}
+      (output_here pace p (length rest + behind) i slot form known.0 (Placed-left code p one rest stands) later)
       (λ s begins. record {
         stack = begins.stack;
         bytes = begins.bytes;
@@ -184,7 +198,8 @@ module _ (image : Fields) (code : MachineCode) (site : CallSite) (numbers : Room
         ready = begins.ready.0;
       })
       (λ s t begins takes. takes))
-      (handed_runs pace (i + 1) slots (omega arith) known.1)
+      (handed_here pace (p + 4 * length one) behind (i + 1) slots (omega arith) known.1
+      (Placed-right code p one rest stands) later)
       (λ s t begins takes.
       let same = handed_data s.bytes i slot form begins.ready.0 in
       record {
@@ -202,12 +217,14 @@ module _ (image : Fields) (code : MachineCode) (site : CallSite) (numbers : Room
       })
 
   -- the outcome of each, as the slots hold it at the beginning
-  pub results_runs : (pace : Pace) → AreKnown image site 0 image.slots
-      → Runs z (outputs_steps image pace site.pointers 0 image.slots) (results_code image pace 0 image.slots)
+  pub results_here : (pace : Pace) (p behind : ℕ) → AreKnown image site 0 image.slots
+      → Placed code p (results_code image pace behind 0 image.slots)
+      → CopierStands code p (length (results_code image pace behind 0 image.slots) + behind) (copier_of image pace)
+      → RunsHere z p (outputs_steps image pace site.pointers 0 image.slots) (results_code image pace behind 0 image.slots)
       (ArgumentsBegin image site (λ bytes. AreReady image site bytes 0 image.slots))
       (HandsBack (λ s. with_arrays site s.bytes 0 image.slots (arrays_in base s.bytes image.slots)))
-  results_runs pace known =
-      weaken_runs z (handed_runs pace 0 image.slots (omega arith) known)
+  results_here pace p behind known stands shared =
+      weaken_here z (handed_here pace p behind 0 image.slots (omega arith) known stands shared)
       (λ s begins. begins)
       (λ s t begins takes. record {
         bytes = takes.bytes ∙ all_handed_are s.bytes 0 image.slots known;

@@ -56,9 +56,7 @@ pub use Rattle.linked_calls.specs.FunctionCode.{needed_for, needed_from, needed_
 pub use Rattle.linked_calls.specs.FunctionCode.{stacked_code, stacked_offset}
 pub use Rattle.linked_calls.specs.FunctionCode.{array_bytes, kept_of}
 pub use Rattle.linked_calls.specs.FunctionCode.{clear_registers_code, copied_code, copied_in_code, copied_out_code, elements_code}
-pub use Rattle.linked_calls.specs.FunctionCode.{next_code, places_code, rounds_code}
-pub use Rattle.linked_calls.specs.FunctionCode.{array_code, by_alignment_code, by_words_code, goes_in_by_words}
-pub use Rattle.linked_calls.specs.FunctionCode.{goes_out_by_words, passed_count, per_word}
+pub use Rattle.linked_calls.specs.FunctionCode.{array_code, by_alignment_code, next_code, per_word, rounds_code}
 pub use Rattle.linked_calls.specs.FunctionCode.{copy_out_code, down_code, enter_code, entry_code, frame_room}
 pub use Rattle.linked_calls.specs.FunctionCode.{leave_code, loads_code, meant_code, restore_code}
 unfoldable pub use Rattle.linked_calls.specs.FunctionCode.{function_words}
@@ -66,7 +64,7 @@ pub use Rattle.linked_calls.specs.FunctionCode.{result_code, results_code, room_
 pub use Rattle.linked_calls.specs.FunctionCode.{rest_words, runs_code, up_code, wipe_code, zeros_code}
 pub use Rattle.linked_calls.specs.Meant.{meant}
 pub use Rattle.linked_calls.specs.Sections.{argument_sections, argument_steps, around_steps, array_section}
-pub use Rattle.linked_calls.specs.Sections.{array_sections, array_steps, by_alignment_steps, by_words_steps, code_of}
+pub use Rattle.linked_calls.specs.Sections.{array_sections, array_steps, code_of}
 pub use Rattle.linked_calls.specs.Sections.{copied_steps, handed_steps, rest_steps, rounds_steps, runs_steps, taken_steps}
 pub use Rattle.linked_calls.specs.Sections.{enter_sections, frame_sections, leave_sections, section_steps}
 pub use Rattle.linked_calls.specs.Stretches.{AreBytes, AreData, AreZeroed, LiesIn}

@@ -7,18 +7,19 @@ use Rattle.std.proofs.Common.{◌≡◌, ℕ, suc, ◌+◌, ◌-◌, ◌*◌, �
 use Rattle.std.proofs.Common.{false, None}
 use Rattle.linked_calls.proofs.Below.{AreBytes, AreData, argument_offset, arguments_end, arguments_of, array_bytes}
 use Rattle.linked_calls.proofs.Below.{body_words, ByteMap, MachineCode, enter_code, enter_sections, Fields, FixedArray, Form}
-use Rattle.linked_calls.proofs.Below.{frame_room, function_words, goes_on, IsCalled, IsImage, IsLeft}
+use Rattle.linked_calls.proofs.Below.{frame_room, goes_on, IsCalled, IsImage, IsLeft}
 use Rattle.linked_calls.proofs.Below.{is_written, kept_of}
 use Rattle.linked_calls.proofs.Below.{IsOfCall, IsSite, LeadsWithin, leave_sections, moved_to, MutableArray, number_at}
 use Rattle.linked_calls.proofs.Below.{Observation, observed, results_in, room_base, saved_registers, section_steps}
 use Rattle.linked_calls.proofs.Below.{SingleWord, CallSite, Slot, State, Step}
 use Rattle.linked_calls.proofs.Bytes.{IsOutside}
 use Rattle.linked_calls.proofs.SameRegisters.{AreSame}
+use Rattle.linked_calls.specs.FunctionCode.{before_return, from_body}
 use Rattle.linked_calls.specs.declared.pace.Pace.{Pace}
 
 -- where the body begins, and the code behind it
 abbrev pub body_at : Fields → Needs → Pace → CallSite → ℕ
-body_at image needs pace site = site.entry + 4 * length (enter_code image needs pace)
+body_at image needs pace site = site.entry + 4 * length (enter_code image needs pace (from_body image pace))
 
 abbrev pub leave_at : Fields → Needs → Pace → CallSite → ℕ
 leave_at image needs pace site = body_at image needs pace site + 4 * length (body_words image.words)
@@ -125,7 +126,7 @@ pub record LeavesFrom (image : Fields) (needs : Needs) (pace : Pace) (code : Mac
   pub counted : suc step_count ≡ leave_steps image pace site.pointers
   pub end : State
   pub leads : LeadsWithin code (IsOfCall image site) step_count s list end
-  pub at_last : end.pc ≡ site.entry + 4 * (length (function_words image needs pace) - 1)
+  pub at_last : end.pc ≡ site.entry + 4 * before_return image needs pace
   pub left : IsLeft image site regs s.bytes (results_in (room_base image site) image s.bytes) end
   pub goes_back : regs 1 % 4 ≡ 0 → Step code end (goes_on (observed end None) (moved_to end (regs 1)))
 

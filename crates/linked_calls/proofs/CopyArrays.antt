@@ -1,132 +1,106 @@
--- An array that is copied whole: element by element, or by words where the pointer is a multiple of 4, and then the
--- elements that are no whole word. What it becomes is the same.
-use Rattle.std.specs.Prelude.{is_some}
-use Rattle.std.proofs.Common.{◌≡◌, ℕ, ◌+◌, ◌-◌, ◌*◌, ◌/◌, ◌%◌, ◌^◌, ◌<◌, ◌≤◌, ◌==◌, ◌&&◌, Bool, true, false}
-use Rattle.std.proofs.Common.{nat_lt, if◌then◌else◌, List, length, map, inl, inr, refl, sym, ap, ap₂, ◌∙◌}
-use Rattle.std.proofs.Common.{subst, arith}
-use Rattle.std.proofs.lemmas.Bool.{eqb-false, eqb-true, ltb-true}
-use Rattle.codegen.proofs.program_logic_lemmas.Counted.{Runs, Setting, then_runs, weaken_runs}
-use Rattle.linked_calls.proofs.Below.{AreApart, AreBytes, AreData, array_code, array_steps, Boolean, both_left}
-use Rattle.linked_calls.proofs.Below.{by_alignment_code, by_alignment_steps, by_words_code, by_words_steps, ByteMap}
-use Rattle.linked_calls.proofs.Below.{copied_code, copied_steps, Data, element_bytes, Instr, Kind}
-use Rattle.linked_calls.proofs.Below.{numbers_at, OthersAsBefore, passed_count, per_word, Uint32, unwritten}
-use Rattle.linked_calls.proofs.Below.{with_numbers, with_result}
+-- An array that is copied whole: by code of its own, or by the copier, and behind the call the elements that are no
+-- whole round. What it becomes is the same.
+use Rattle.std.specs.Prelude.{◌⊎◌, bit_and, bit_or, is_some, nat_le}
+use Rattle.std.proofs.Common.{◌≡◌, ◌≢◌, ℕ, suc, ◌+◌, ◌*◌, ◌/◌, ◌%◌, ◌^◌, ◌<◌, ◌≤◌, ◌==◌, Bool, true, false}
+use Rattle.std.proofs.Common.{if◌then◌else◌, ◌&&◌, List, [], ◌∷◌, ◌++◌, length, map, inl, inr, Option, Some, None, refl, sym, ap}
+use Rattle.std.proofs.Common.{◌∙◌, ap₂, subst, arith, length-append}
+use Rattle.std.proofs.lemmas.Bool.{and_parts, eqb-false, eqb-true, leb-true}
+use Rattle.std.proofs.lemmas.List.{map-id}
+use Rattle.codegen.proofs.program_logic_lemmas.Counted.{in_steps, Runs, Setting, weaken_runs}
 use Rattle.linked_calls.proofs.Alignment.{aligned_runs, TestsPointer, unaligned_runs}
-use Rattle.linked_calls.proofs.Bytes.{IsOutside, is_some-with_numbers, numbers_count, numbers_outside, numbers_same}
-use Rattle.linked_calls.proofs.CopyElements.{chosen, copied_value, element_code, few_enough, left_few, rounds_split}
-use Rattle.linked_calls.proofs.CopyLengths.{by_words_short, copied_short}
-use Rattle.linked_calls.proofs.CopyNumbers.{BeginsCopy, CanCopy, copied, copy_runs, HasCopied, Numbers, straight_runs_on}
-use Rattle.linked_calls.proofs.MovedBytes.{goes_by_words, values_same, words_same, words_then}
-use Rattle.linked_calls.proofs.Pieces.{MayAt}
-use Rattle.linked_calls.specs.Paces.{few_elements, may_go_by_words, per_round}
+use Rattle.linked_calls.proofs.Below.{AreApart, AreBytes, AreData, array_code, array_steps, Boolean, ByteMap}
+use Rattle.linked_calls.proofs.Below.{copied_code, copied_out_code, copied_steps, Data, element_bytes, elements_code, Instr}
+use Rattle.linked_calls.proofs.Below.{JumpRegister, Kind, numbers_at, OthersAsBefore, per_word, Placed, Placed-left}
+use Rattle.linked_calls.proofs.Below.{Placed-right, sum_of, Uint16, Uint32, Uint8, unwritten, with_numbers, with_result}
+use Rattle.linked_calls.proofs.Bytes.{numbers_same}
+use Rattle.linked_calls.proofs.CopyElements.{copied_value, element_code}
+use Rattle.linked_calls.proofs.CopyLengths.{rest_few, rest_short}
+use Rattle.linked_calls.proofs.CopyNumbers.{BeginsCopy, CanCopy, copied, copy_runs, HasCopied, loop_runs, Numbers}
+use Rattle.linked_calls.proofs.CopyNumbers.{Copying, straight_runs_on}
+use Rattle.linked_calls.proofs.MovedBytes.{AreMoved, goes_as_it_is, moved_then, numbers_moved, values_same}
+use Rattle.linked_calls.proofs.Parts.{bound_runs}
+use Rattle.linked_calls.proofs.Pieces.{placed}
+use Rattle.linked_calls.proofs.PlacedRuns.{counted_here, here, RunsHere, then_here, weaken_here}
+use Rattle.linked_calls.proofs.SharedCode.{call_runs}
+use Rattle.linked_calls.specs.Copies.{CopierStands}
+use Rattle.linked_calls.specs.FunctionCode.{bound_code, call_code, called_code, copier_code, copies_code, goes_by_call}
+use Rattle.linked_calls.specs.FunctionCode.{in_round, is_worth_a_call, loop_code}
+use Rattle.linked_calls.specs.Paces.{times}
+use Rattle.linked_calls.specs.Sections.{called_steps, copier_steps, loop_steps}
 use Rattle.linked_calls.specs.declared.pace.Pace.{Pace}
-use Rattle.rv_machine.specs.declared.observation.Event.TheVariants as event
+use Rattle.linked_calls.specs.declared.round.Round.{Round}
+use Rattle.linked_calls.specs.declared.round.Round.TheVariants.{Four, One, Two}
 
--- Of two places that are chosen, and so many bytes on from both.
+-- Elements are whole rounds, and some that are left.
 
-chosen_part : (inward : Bool) (x y b d : ℕ) → chosen inward (x + b) (y + b) + d ≡ chosen inward x y + (b + d)
-chosen_part true x y b d = omega arith
-chosen_part false x y b d = omega arith
+bytes_are : (round : Round) (kind : Kind) (k : ℕ)
+    → element_bytes kind * k
+    ≡ 4 * (times round * (k / in_round round kind)) + element_bytes kind * (k % in_round round kind)
+bytes_are One Boolean k = omega arith
+bytes_are One Uint8 k = omega arith
+bytes_are One Uint16 k = omega arith
+bytes_are One Uint32 k = omega arith
+bytes_are Two Boolean k = omega arith
+bytes_are Two Uint8 k = omega arith
+bytes_are Two Uint16 k = omega arith
+bytes_are Two Uint32 k = omega arith
+bytes_are Four Boolean k = omega arith
+bytes_are Four Uint8 k = omega arith
+bytes_are Four Uint16 k = omega arith
+bytes_are Four Uint32 k = omega arith
 
-chosen_start : (inward : Bool) (x y : ℕ) → chosen inward (x + 0) (y + 0) + 0 ≡ chosen inward x y
-chosen_start true x y = omega arith
-chosen_start false x y = omega arith
+-- the rounds, in bytes
+gone_are : (round : Round) (kind : Kind) (m : ℕ)
+    → element_bytes kind * (in_round round kind * m) ≡ 4 * (times round * m)
+gone_are One Boolean m = omega arith
+gone_are One Uint8 m = omega arith
+gone_are One Uint16 m = omega arith
+gone_are One Uint32 m = omega arith
+gone_are Two Boolean m = omega arith
+gone_are Two Uint8 m = omega arith
+gone_are Two Uint16 m = omega arith
+gone_are Two Uint32 m = omega arith
+gone_are Four Boolean m = omega arith
+gone_are Four Uint8 m = omega arith
+gone_are Four Uint16 m = omega arith
+gone_are Four Uint32 m = omega arith
 
-part_apart : (m n b d x y : ℕ) → b + d + m ≤ n → AreApart n x y → AreApart m (x + b + d) (y + b + d)
-part_apart m n b d x y less (inl below) = inl (omega arith)
-part_apart m n b d x y less (inr above) = inr (omega arith)
+gone_some : (round : Round) (m : ℕ) → 0 < m → 0 < 4 * (times round * m)
+gone_some One m some = omega arith
+gone_some Two m some = omega arith
+gone_some Four m some = omega arith
 
-both_apart : (inward : Bool) (n x y : ℕ) → AreApart n x y → AreApart n (chosen inward x y) (chosen inward y x)
-both_apart true n x y apart = apart
-both_apart false n x y (inl below) = inr below
-both_apart false n x y (inr above) = inl above
+-- there is one
+rounds_some : (round : Round) (kind : Kind) (k : ℕ) → in_round round kind ≤ k → 0 < k / in_round round kind
+rounds_some One Boolean k many = omega arith
+rounds_some One Uint8 k many = omega arith
+rounds_some One Uint16 k many = omega arith
+rounds_some One Uint32 k many = omega arith
+rounds_some Two Boolean k many = omega arith
+rounds_some Two Uint8 k many = omega arith
+rounds_some Two Uint16 k many = omega arith
+rounds_some Two Uint32 k many = omega arith
+rounds_some Four Boolean k many = omega arith
+rounds_some Four Uint8 k many = omega arith
+rounds_some Four Uint16 k many = omega arith
+rounds_some Four Uint32 k many = omega arith
 
--- Elements are whole words, and some that are left.
+rest_even : (kind : Kind) (a m : ℕ) → a % element_bytes kind ≡ 0 → (a + 4 * m) % element_bytes kind ≡ 0
+rest_even Boolean a m even = omega arith
+rest_even kind a m even = omega arith
 
-bytes_are : (kind : Kind) (k : ℕ)
-    → element_bytes kind * k ≡ 4 * (k / per_word kind) + element_bytes kind * (k % per_word kind)
-bytes_are Boolean k = omega arith
-bytes_are kind k = omega arith
-
-rest_few : (kind : Kind) (k : ℕ) → k % per_word kind < 16
-rest_few Boolean k = omega arith
-rest_few kind k = omega arith
-
-words_even : (kind : Kind) (a i j : ℕ) → a % element_bytes kind ≡ 0
-    → (a + 4 * i + 4 * j) % element_bytes kind ≡ 0
-words_even Boolean a i j even = omega arith
-words_even kind a i j even = omega arith
-
-start_even : (kind : Kind) (a : ℕ) → a % element_bytes kind ≡ 0 → (a + 0 + 0) % element_bytes kind ≡ 0
-start_even Boolean a even = omega arith
-start_even kind a even = omega arith
-
-pub word_even : (kind : Kind) (a : ℕ) → a % 4 ≡ 0 → a % element_bytes kind ≡ 0
-word_even Boolean a even = omega arith
-word_even kind a even = omega arith
-
-passed_few : (pace : Pace) (count : ℕ) → (passed_count pace Uint32 count < 16) × (passed_count pace Uint32 count ≤ count)
-passed_few pace count = by (nat_lt count (few_elements pace Uint32)) refl
-  where
-    by : (b : Bool) → nat_lt count (few_elements pace Uint32) ≡ b
-        → ((if b then count else count % per_round pace Uint32) < 16)
-        × ((if b then count else count % per_round pace Uint32) ≤ count)
-    by true few =
-        let below = ltb-true count (few_elements pace Uint32) few in
-        (omega (arith, few_enough pace Uint32), omega arith)
-    by false many =
-        let left = left_few pace Uint32 count in
-        let all = rounds_split pace Uint32 count in
-        (omega arith, omega arith)
-
--- so many elements, with x2, and with x5 and x6 where they are copied between
-pub record CopiedArray : Type 0 where
-  pub kind : Kind
-  pub count : ℕ
-  pub frame : ℕ
-  pub pointer : ℕ
-  pub place : ℕ
-
-abbrev pub from_of : Bool → CopiedArray → ℕ
-from_of inward array = chosen inward array.pointer array.place
-
-abbrev pub to_of : Bool → CopiedArray → ℕ
-to_of inward array = chosen inward array.place array.pointer
-
-abbrev pub bytes_of : CopiedArray → ℕ
-bytes_of array = element_bytes array.kind * array.count
-
--- they lie so that they can be copied, and their accesses are allowed
-pub record CanCopyArray (inward : Bool) (z : Setting) (array : CopiedArray) : Type 0 where
-  pub pointer_even : array.pointer % element_bytes array.kind ≡ 0
-  pub place_even : array.place % 4 ≡ 0
-  pub pointer_ends : array.pointer + bytes_of array ≤ 2 ^ 32
-  pub place_ends : array.place + bytes_of array < 2 ^ 32
-  pub apart : AreApart (bytes_of array) array.pointer array.place
-  pub loads : MayAt z array.frame event.Load (from_of inward array) (from_of inward array + bytes_of array)
-  pub stores : MayAt z array.frame event.Store (to_of inward array) (to_of inward array + bytes_of array)
-
--- x2 is there, x5 and x6 are so many bytes on, and all that is read and written is data
-pub record HasPlaces (inward : Bool) (array : CopiedArray) (base : ℕ) (s : Data) : Type 0 where
-  pub stack : s.regs 2 ≡ array.frame
-  pub pointer : s.regs 5 ≡ (array.pointer + base) % 2 ^ 32
-  pub place : s.regs 6 ≡ (array.place + base) % 2 ^ 32
-  pub from_there : AreData (from_of inward array) (from_of inward array + bytes_of array) s.bytes
-  pub to_there : AreData (to_of inward array) (to_of inward array + bytes_of array) s.bytes
-
--- at the first element, where data is bytes
-pub record BeginsArray (inward : Bool) (array : CopiedArray) (s : Data) : Type 0 where
-  pub places : HasPlaces inward array 0 s
+-- x2, x5 and x6 are there, and data is bytes
+pub record BeginsArray (array : Numbers) (s : Data) : Type 0 where
+  pub places : BeginsCopy array s
   pub bytes : AreBytes s.bytes
 
--- the bytes are those with all elements copied
-pub record HasArrayCopied (inward : Bool) (array : CopiedArray) (s t : Data) : Type 0 where
-  pub bytes : t.bytes ≡ with_numbers s.bytes (element_bytes array.kind) (to_of inward array)
-      (map (copied_value inward array.kind)
-      (numbers_at s.bytes (element_bytes array.kind) (from_of inward array) array.count))
-  pub others : OthersAsBefore s t
+-- the two lowest bits of both places are those of a pointer, which says whether both are multiples of 4
+pub record IsTested (array : Numbers) (pointer : ℕ) : Type 0 where
+  pub is : bit_and (bit_or (array.source % 2 ^ 32) (array.target % 2 ^ 32)) 3 ≡ pointer % 4
+  pub even : pointer % 4 ≡ 0 → (array.source % 4 ≡ 0) × (array.target % 4 ≡ 0)
 
-module _ (pace : Pace) (inward : Bool) (z : Setting) (array : CopiedArray) (can : CanCopyArray inward z array) where
+module _ (z : Setting) (round : Round) (array : Numbers) (can : CanCopy z array) (pointer : ℕ)
+    (tested : IsTested array pointer) where
   abbrev kind : Kind
   kind = array.kind
 
@@ -137,266 +111,409 @@ module _ (pace : Pace) (inward : Bool) (z : Setting) (array : CopiedArray) (can 
   k = array.count
 
   abbrev from : ℕ
-  from = from_of inward array
+  from = array.source
 
   abbrev to : ℕ
-  to = to_of inward array
+  to = array.target
 
-  abbrev code : Kind → ℕ → List Instr
-  code = element_code inward
+  abbrev rounds : ℕ
+  rounds = k / in_round round kind
 
-  -- A part of it, as numbers of some size.
+  abbrev left : ℕ
+  left = k % in_round round kind
 
-  abbrev part : Kind → ℕ → ℕ → ℕ → Numbers
-  part unit count base distance = record {
-    kind = unit;
-    count = count;
-    frame = array.frame;
-    pointer = array.pointer + base;
-    place = array.place + base;
-    distance = distance;
-  }
+  -- how far x5 and x6 go
+  abbrev gone : ℕ
+  gone = 4 * (times round * rounds)
 
-  module _ (unit : Kind) (count base distance : ℕ) (inside : base + distance + element_bytes unit * count ≤ n * k) where
-    from_is : chosen inward (array.pointer + base) (array.place + base) + distance ≡ from + (base + distance)
-    from_is = chosen_part inward array.pointer array.place base distance
+  inside : n * k ≡ gone + n * left
+  inside = bytes_are round kind k
 
-    to_is : chosen inward (array.place + base) (array.pointer + base) + distance ≡ to + (base + distance)
-    to_is = chosen_part inward array.place array.pointer base distance
+  -- Whole rounds, where x7 says where they end.
 
-    can_part : distance ≤ 64 → (array.pointer + base + distance) % element_bytes unit ≡ 0
-        → (array.place + base + distance) % element_bytes unit ≡ 0 → CanCopy inward z (part unit count base distance)
-    can_part near pointer_even place_even =
-        let low = can.pointer_ends in
-        let high = can.place_ends in
-        let one = from_is in
-        let other = to_is in
+  pub record BeginsRounds (s : Data) : Type 0 where
+    pub begins : BeginsArray array s
+    pub stop : s.regs 7 ≡ (from + gone) % 2 ^ 32
+
+  pub record HasMoved (s t : Data) : Type 0 where
+    pub bytes : AreMoved s.bytes s.bytes t.bytes from to gone
+    pub source : t.regs 5 ≡ (from + gone) % 2 ^ 32
+    pub target : t.regs 6 ≡ (to + gone) % 2 ^ 32
+    pub others : (q : ℕ) → q ≢ 5 → q ≢ 6 → q ≢ 28 → t.regs q ≡ s.regs q
+
+  -- as numbers of some size
+  abbrev part : Kind → ℕ → Numbers
+  part unit count = record { kind = unit; count = count; frame = array.frame; source = from; target = to }
+
+  module _ (unit : Kind) (count : ℕ) (all : element_bytes unit * count ≡ gone) where
+    can_part : from % element_bytes unit ≡ 0 → to % element_bytes unit ≡ 0 → CanCopy z (part unit count)
+    can_part source_even target_even =
+        let one = can.source_ends in
+        let other = can.target_ends in
+        let small = can.few in
+        let fits = inside in
         record {
-          near = near;
-          pointer_even = pointer_even;
-          place_even = place_even;
-          pointer_ends = omega arith;
-          place_ends = omega arith;
-          apart = part_apart (element_bytes unit * count) (n * k) base distance array.pointer array.place inside can.apart;
-          loads = λ a size lies. can.loads a size (omega (arith, lies.0), omega (arith, lies.1));
-          stores = λ a size lies. can.stores a size (omega (arith, lies.0), omega (arith, lies.1));
+          source_even = source_even;
+          target_even = target_even;
+          source_ends = omega arith;
+          target_ends = omega arith;
+          few = omega arith;
+          apart = elim can.apart [ inl before ↦ inl (omega arith) | inr behind ↦ inr (omega arith) ];
+          loads = λ a size lies. can.loads a size (lies.0, omega (arith, lies.1));
+          stores = λ a size lies. can.stores a size (lies.0, omega (arith, lies.1));
         }
 
-    begins_part : (s : Data) → HasPlaces inward array base s → BeginsCopy inward (part unit count base distance) s
+    begins_part : (s : Data) → BeginsArray array s → BeginsCopy (part unit count) s
     begins_part s has =
-        let one = from_is in
-        let other = to_is in
+        let fits = inside in
         record {
-          stack = has.stack;
-          pointer = has.pointer;
-          place = has.place;
-          from_there = λ x low high. has.from_there x (omega arith) (omega arith);
-          to_there = λ x low high. has.to_there x (omega arith) (omega arith);
+          stack = has.places.stack;
+          source = has.places.source;
+          target = has.places.target;
+          from_there = λ x low high. has.places.from_there x low (omega arith);
+          to_there = λ x low high. has.places.to_there x low (omega arith);
         }
 
-  -- Element by element.
-
-  abbrev alone : Numbers
-  alone = part kind k 0 0
-
-  alone_runs : Runs z (copied_steps pace (code kind) kind k) (copied_code pace (code kind) kind k) (BeginsArray inward array)
-      (HasArrayCopied inward array)
-  alone_runs =
-      let all : 0 + 0 + n * k ≤ n * k = omega arith in
-      let pointer_even = start_even kind array.pointer can.pointer_even in
-      let place_even = start_even kind array.place (word_even kind array.place can.place_even) in
-      let read = chosen_start inward array.pointer array.place in
-      let put = chosen_start inward array.place array.pointer in
-      weaken_runs z {P' = BeginsArray inward array} {R' = HasArrayCopied inward array}
-      (copy_runs inward z alone (can_part kind k 0 0 all (omega arith) pointer_even place_even) pace refl)
-      (λ s begins. begins_part kind k 0 0 all s begins.places)
-      (λ s t begins copies. record {
-        bytes = copies.bytes
-            ∙ ap₂ (λ a b. with_numbers s.bytes n b (map (copied_value inward kind) (numbers_at s.bytes n a k))) read put;
-        others = copies.others;
-      })
-
-  -- Word by word.
-
-  module _ (even : array.pointer % 4 ≡ 0) (goes : goes_by_words inward kind ≡ true) where
-    abbrev word_count : ℕ
-    word_count = k / per_word kind
-
-    abbrev left : ℕ
-    left = k % per_word kind
-
-    abbrev passed : ℕ
-    passed = passed_count pace Uint32 word_count
-
-    -- how far x5 and x6 go
-    abbrev gone : ℕ
-    gone = 4 * (word_count - passed)
-
-    abbrev words : Numbers
-    words = part Uint32 word_count 0 0
-
-    abbrev rest : Numbers
-    rest = part kind left gone (4 * passed)
-
-    words_inside : 0 + 0 + 4 * word_count ≤ n * k
-    words_inside = let all = bytes_are kind k in omega arith
-
-    rest_inside : gone + 4 * passed + n * left ≤ n * k
-    rest_inside =
-        let all = bytes_are kind k in
-        let few = passed_few pace word_count in
-        omega (arith, few.1)
-
-    can_words : CanCopy inward z words
-    can_words =
-        let place_even = can.place_even in
-        can_part Uint32 word_count 0 0 words_inside (omega arith) (omega arith) (omega arith)
-
-    can_rest : CanCopy inward z rest
-    can_rest =
-        let few = passed_few pace word_count in
-        can_part kind left gone (4 * passed) rest_inside (omega (arith, few.0))
-        (words_even kind array.pointer (word_count - passed) passed can.pointer_even)
-        (words_even kind array.place (word_count - passed) passed (word_even kind array.place can.place_even))
-
-    -- the bytes with the words copied
-    abbrev worded : ByteMap → ByteMap
-    worded bytes = with_numbers bytes 4 to (numbers_at bytes 4 from word_count)
-
-    worded_is : (bytes : ByteMap) → copied inward words word_count bytes ≡ worded bytes
-    worded_is bytes =
-        ap₂ (λ a b. with_numbers bytes 4 b (map (copied_value inward Uint32) (numbers_at bytes 4 a word_count)))
-        (chosen_start inward array.pointer array.place) (chosen_start inward array.place array.pointer)
-        ∙ words_same inward bytes to (numbers_at bytes 4 from word_count)
-
-    -- what is read behind them is as it was
-    behind_same : (bytes : ByteMap) (x : ℕ) → from + 4 * word_count ≤ x → x < from + n * k → worded bytes x ≡ bytes x
-    behind_same bytes x low high =
-        numbers_outside bytes 4 to (numbers_at bytes 4 from word_count) x
-        (subst (λ c. IsOutside to (to + 4 * c) x) (sym (numbers_count bytes 4 from word_count))
-        (by (both_apart inward (n * k) array.pointer array.place can.apart)))
-      where
-        by : AreApart (n * k) from to → IsOutside to (to + 4 * word_count) x
-        by (inl before) = inl (omega arith)
-        by (inr behind) = let all = words_inside in inr (omega arith)
-
-    worded_data : (bytes : ByteMap) → AreData to (to + n * k) bytes → (x : ℕ)
-        → is_some (worded bytes x) ≡ is_some (bytes x)
-    worded_data bytes there x =
-        is_some-with_numbers bytes 4 to (numbers_at bytes 4 from word_count)
-        (λ y low high. there y low
-        (let all = words_inside in omega (arith, numbers_count bytes 4 from word_count))) x
-
-    -- and so it is for the elements behind them
-    rest_places : (s t : Data) → BeginsArray inward array s → HasCopied inward words passed s t
-        → HasPlaces inward array gone t
-    rest_places s t begins copies =
-        let made = copies.bytes ∙ worded_is s.bytes in
-        let same = λ (x : ℕ). ap (λ (b : ByteMap). is_some (b x)) made
-        ∙ worded_data s.bytes begins.places.to_there x in
-        record {
-          stack = copies.others 2 (λ e. omega arith) (λ e. omega arith) (λ e. omega arith) (λ e. omega arith)
-              ∙ begins.places.stack;
-          pointer = copies.pointer ∙ omega arith;
-          place = copies.place ∙ omega arith;
-          from_there = λ x low high. same x ∙ begins.places.from_there x low high;
-          to_there = λ x low high. same x ∙ begins.places.to_there x low high;
-        }
-
-    all_is : (bytes : ByteMap) → AreBytes bytes → AreData from (from + n * k) bytes
-        → copied inward rest left (worded bytes)
-        ≡ with_numbers bytes n to (map (copied_value inward kind) (numbers_at bytes n from k))
-    all_is bytes are there =
-        let few = passed_few pace word_count in
-        let inside = rest_inside in
-        let gone_by : gone + 4 * passed ≡ 4 * word_count = omega (arith, few.1) in
-        let read = chosen_part inward array.pointer array.place gone (4 * passed) ∙ ap (λ m. from + m) gone_by in
-        let put = chosen_part inward array.place array.pointer gone (4 * passed) ∙ ap (λ m. to + m) gone_by in
-        ap₂ (λ a b. with_numbers (worded bytes) n b (map (copied_value inward kind) (numbers_at (worded bytes) n a left)))
-        read put
-        ∙ values_same inward kind (worded bytes) (to + 4 * word_count)
-        (numbers_at (worded bytes) n (from + 4 * word_count) left) goes
-        ∙ ap (λ (vs : List ℕ). with_numbers (worded bytes) n (to + 4 * word_count) vs)
-        (numbers_same bytes (worded bytes) n (from + 4 * word_count) left
-        (λ x low high. behind_same bytes x low (omega arith)))
-        ∙ words_then bytes n from to word_count left k are (bytes_are kind k) there
-        ∙ sym (values_same inward kind bytes to (numbers_at bytes n from k) goes)
-
-    words_run : Runs z (by_words_steps pace code kind k) (by_words_code pace code kind k) (BeginsArray inward array)
-        (HasArrayCopied inward array)
-    words_run =
-        then_runs z {P = BeginsArray inward array} {P' = BeginsCopy inward rest} {R = HasCopied inward words passed}
-        {R' = HasCopied inward rest left} {S = HasArrayCopied inward array}
-        (weaken_runs z {P' = BeginsArray inward array} {R' = HasCopied inward words passed}
-        (copy_runs inward z words can_words pace refl)
-        (λ s begins. begins_part Uint32 word_count 0 0 words_inside s begins.places) (λ s t begins copies. copies))
-        (straight_runs_on inward z rest can_rest (4 * passed) refl (rest_few kind k))
-        (λ s t begins copies. begins_part kind left gone (4 * passed) rest_inside t (rest_places s t begins copies))
-        (λ s t u begins copies more. record {
-          bytes = more.bytes ∙ ap (copied inward rest left) (copies.bytes ∙ worded_is s.bytes)
-              ∙ all_is s.bytes begins.bytes begins.places.from_there;
-          others = λ q g h l m. more.others q g h l m ∙ copies.others q g h l m;
+    -- in rounds of some size
+    part_runs : (each : Round) (m : ℕ) → times each * m ≡ count → 0 < m → from % element_bytes unit ≡ 0
+        → to % element_bytes unit ≡ 0
+        → Runs z (loop_steps (copied_out_code unit) unit (times each) m) (loop_code (copied_out_code unit) unit (times each))
+        BeginsRounds HasMoved
+    part_runs each m whole some source_even target_even =
+        let numbers = part unit count in
+        let within : times each * m ≤ count = omega arith in
+        let bytes : element_bytes unit * (times each * m) ≡ gone = ap (λ x. element_bytes unit * x) whole ∙ all in
+        let none : times each * m + 0 ≡ count = omega arith in
+        weaken_runs z {P' = BeginsRounds} {R' = HasMoved}
+        (in_steps z (counted m (length (elements_code (copied_out_code unit) (element_bytes unit) 0 (times each))))
+        (loop_runs false z numbers (can_part source_even target_even) each m within some))
+        (λ s begun. record {
+          begins = begins_part s begun.begins;
+          stop = begun.stop ∙ ap (λ x. (from + x) % 2 ^ 32) (sym bytes);
         })
+        (λ s t begun held. record {
+          bytes = made s t begun.begins (held.bytes ∙ ap (λ i. copied false numbers i s.bytes) none);
+          source = held.source ∙ ap (λ x. (from + x) % 2 ^ 32) bytes;
+          target = held.target ∙ ap (λ x. (to + x) % 2 ^ 32) bytes;
+          others = held.others;
+        })
+      where
+        counted : (m e : ℕ) → m * suc (e + 2) ≡ (e + 3) * m
+        counted m e = omega arith
+
+        made : (s t : Data) → BeginsArray array s → t.bytes ≡ copied false (part unit count) count s.bytes
+            → AreMoved s.bytes s.bytes t.bytes from to gone
+        made s t begins is =
+            let fits = inside in
+            subst (λ (b : ByteMap). AreMoved s.bytes s.bytes b from to gone)
+            (sym (is ∙ ap (λ (vs : List ℕ). with_numbers s.bytes (element_bytes unit) to vs)
+            (map-id (numbers_at s.bytes (element_bytes unit) from count))))
+            (subst (λ m. AreMoved s.bytes s.bytes
+            (with_numbers s.bytes (element_bytes unit) to (numbers_at s.bytes (element_bytes unit) from count)) from to m) all
+            (numbers_moved s.bytes begins.bytes s.bytes (element_bytes unit) from to count
+            (λ x low high. begins.places.from_there x low (omega arith))))
 
   -- As the pointer is.
 
-  tests : TestsPointer array.pointer (BeginsArray inward array)
+  tests : TestsPointer pointer BeginsRounds
   tests = record {
-    is = λ s begins. begins.places.pointer ∙ omega arith;
-    still = λ s v begins. record {
-      places = record {
-        stack = begins.places.stack;
-        pointer = begins.places.pointer;
-        place = begins.places.place;
-        from_there = begins.places.from_there;
-        to_there = begins.places.to_there;
+    is = λ s begun. ap₂ (λ x y. bit_and (bit_or x y) 3) begun.begins.places.source begun.begins.places.target ∙ tested.is;
+    still = λ s v begun. record {
+      begins = record {
+        places = record {
+          stack = begun.begins.places.stack;
+          source = begun.begins.places.source;
+          target = begun.begins.places.target;
+          from_there = begun.begins.places.from_there;
+          to_there = begun.begins.places.to_there;
+        };
+        bytes = begun.begins.bytes;
       };
-      bytes = begins.bytes;
+      stop = begun.stop;
     };
   }
 
-  hides : (s t : Data) (v : ℕ) → BeginsArray inward array s → HasArrayCopied inward array (with_result 28 v s) t
-      → HasArrayCopied inward array s t
-  hides s t v begins copies = record {
-    bytes = copies.bytes;
-    others = λ q g h l m. copies.others q g h l m ∙ unwritten s.regs 28 v q m;
+  hides : (s t : Data) (v : ℕ) → BeginsRounds s → HasMoved (with_result 28 v s) t → HasMoved s t
+  hides s t v begun moved = record {
+    bytes = moved.bytes;
+    source = moved.source;
+    target = moved.target;
+    others = λ q g h l. moved.others q g h l ∙ unwritten s.regs 28 v q l;
   }
 
-  abbrev one_by_one : List Instr
-  one_by_one = copied_code pace (code kind) kind k
+  abbrev by_bytes : List Instr
+  by_bytes = loop_code (copied_out_code Uint8) Uint8 1
 
   abbrev by_words : List Instr
-  by_words = by_words_code pace code kind k
+  by_words = loop_code (copied_out_code Uint32) Uint32 (times round)
 
-  alignment_runs : goes_by_words inward kind ≡ true
-      → Runs z (by_alignment_steps pace code kind k array.pointer) (by_alignment_code one_by_one by_words)
-      (BeginsArray inward array) (HasArrayCopied inward array)
-  alignment_runs goes = by (array.pointer % 4 == 0) refl
+  pub copies_run : 0 < rounds → Runs z (copier_steps round rounds pointer) (copies_code round) BeginsRounds HasMoved
+  copies_run some = by (pointer % 4 == 0) refl
     where
-      short : length one_by_one < 512
-      short = let few = copied_short pace inward kind k in omega arith
+      near : (each : Round) → length (loop_code (copied_out_code Uint32) Uint32 (times each)) < 512
+      near One = omega arith
+      near Two = omega arith
+      near Four = omega arith
 
-      near : length by_words < 512
-      near = let few = by_words_short pace inward kind k in omega arith
+      whole : times One * (4 * (times round * rounds)) ≡ 4 * (times round * rounds)
+      whole = omega arith
 
-      by : (b : Bool) → array.pointer % 4 == 0 ≡ b
-          → Runs z (2 + (if b then by_words_steps pace code kind k else copied_steps pace (code kind) kind k + 1))
-          (by_alignment_code one_by_one by_words) (BeginsArray inward array) (HasArrayCopied inward array)
-      by true is =
-          let even = eqb-true (array.pointer % 4) 0 is in
-          aligned_runs z one_by_one by_words short near array.pointer tests hides even (words_run even goes)
-      by false is =
-          unaligned_runs z one_by_one by_words short near array.pointer tests hides
-          (eqb-false (array.pointer % 4) 0 is) alone_runs
-
-  pub whole_runs : Runs z (array_steps pace code (goes_by_words inward kind) kind k array.pointer)
-      (array_code pace code (goes_by_words inward kind) kind k) (BeginsArray inward array) (HasArrayCopied inward array)
-  whole_runs = by (goes_by_words inward kind && may_go_by_words pace k) refl
-    where
-      by : (b : Bool) → goes_by_words inward kind && may_go_by_words pace k ≡ b
+      by : (b : Bool) → pointer % 4 == 0 ≡ b
           → Runs z
-          (if b then by_alignment_steps pace code kind k array.pointer else copied_steps pace (code kind) kind k)
-          (if b then by_alignment_code one_by_one by_words else one_by_one)
-          (BeginsArray inward array) (HasArrayCopied inward array)
-      by true both = alignment_runs (both_left (goes_by_words inward kind) (may_go_by_words pace k) both)
-      by false neither = alone_runs
+          (3 + (if b then loop_steps (copied_out_code Uint32) Uint32 (times round) rounds
+          else loop_steps (copied_out_code Uint8) Uint8 1 (4 * (times round * rounds)) + 1))
+          (copies_code round) BeginsRounds HasMoved
+      by true is =
+          let even = eqb-true (pointer % 4) 0 is in
+          let both = tested.even even in
+          aligned_runs z by_bytes by_words (omega arith) (near round) pointer tests hides even
+          (part_runs Uint32 (times round * rounds) refl round rounds refl some both.0 both.1)
+      by false is =
+          unaligned_runs z by_bytes by_words (omega arith) (near round) pointer tests hides
+          (eqb-false (pointer % 4) 0 is)
+          (part_runs Uint8 gone (omega arith) One gone whole (gone_some round rounds some) (omega arith) (omega arith))
+
+  -- The call, and what is left.
+
+  record HasCalled (s t : Data) : Type 0 where
+    bytes : AreMoved s.bytes s.bytes t.bytes from to gone
+    source : t.regs 5 ≡ (from + gone) % 2 ^ 32
+    target : t.regs 6 ≡ (to + gone) % 2 ^ 32
+    others : (q : ℕ) → q ≢ 5 → q ≢ 6 → q ≢ 28 → q ≢ 30 → t.regs q ≡ s.regs q
+
+  abbrev rest : Numbers
+  rest = record { kind = kind; count = left; frame = array.frame; source = from + gone; target = to + gone }
+
+  abbrev rest_code : List Instr
+  rest_code = elements_code (copied_out_code kind) n 0 left
+
+  can_rest : CanCopy z rest
+  can_rest =
+      let one = can.source_ends in
+      let other = can.target_ends in
+      let small = can.few in
+      let fits = inside in
+      record {
+        source_even = rest_even kind from (times round * rounds) can.source_even;
+        target_even = rest_even kind to (times round * rounds) can.target_even;
+        source_ends = omega arith;
+        target_ends = omega arith;
+        few = omega arith;
+        apart = elim can.apart [ inl before ↦ inl (omega arith) | inr behind ↦ inr (omega arith) ];
+        loads = λ a size lies. can.loads a size (omega (arith, lies.0), omega (arith, lies.1));
+        stores = λ a size lies. can.stores a size (omega (arith, lies.0), omega (arith, lies.1));
+      }
+
+  -- what is read behind the rounds is as it was
+  behind_same : (s t : Data) → HasCalled s t → (x : ℕ) → from + gone ≤ x → x < from + n * k → t.bytes x ≡ s.bytes x
+  behind_same s t called x low high = called.bytes.outside x (by can.apart)
+    where
+      by : AreApart (n * k) from to → (x < to) ⊎ (to + gone ≤ x)
+      by (inl before) = inl (omega arith)
+      by (inr behind) = let fits = inside in inr (omega arith)
+
+  rest_begins : (s t : Data) → BeginsRounds s → HasCalled s t → BeginsCopy rest t
+  rest_begins s t begun called =
+      let fits = inside in
+      let places = begun.begins.places in
+      record {
+        stack = called.others 2 (λ e. omega arith) (λ e. omega arith) (λ e. omega arith) (λ e. omega arith) ∙ places.stack;
+        source = called.source;
+        target = called.target;
+        from_there = λ x low high. ap is_some (behind_same s t called x low (omega arith))
+            ∙ places.from_there x (omega arith) (omega arith);
+        to_there = λ x low high. ap is_some (called.bytes.outside x (inr low)) ∙ places.to_there x (omega arith) (omega arith);
+      }
+
+  all_is : (s t u : Data) → BeginsRounds s → HasCalled s t → HasCopied false rest t u
+      → u.bytes ≡ copied false array k s.bytes
+  all_is s t u begun called more =
+      let fits = inside in
+      more.bytes
+      ∙ ap (λ (vs : List ℕ). with_numbers t.bytes n (to + gone) vs)
+      (map-id (numbers_at t.bytes n (from + gone) left)
+      ∙ numbers_same s.bytes t.bytes n (from + gone) left
+      (λ x low high. behind_same s t called x low (omega arith)))
+      ∙ moved_then s.bytes t.bytes n from to gone left k begun.begins.bytes inside begun.begins.places.from_there called.bytes
+      ∙ ap (λ (vs : List ℕ). with_numbers s.bytes n to vs) (sym (map-id (numbers_at s.bytes n from k)))
+
+  -- where the call stands, and so many instructions behind its rest the copier
+  module _ (p behind : ℕ) (stands : Placed z.code p (call_code (length rest_code + behind) ∷ rest_code))
+      (shared : Placed z.code (p + 4 + 4 * (length rest_code + behind)) (copier_code round)) (near : behind < 2 ^ 17)
+      (some : 0 < rounds) where
+    call_here : RunsHere z p (1 + (copier_steps round rounds pointer + 1)) (call_code (length rest_code + behind) ∷ [])
+        BeginsRounds HasCalled
+    call_here =
+        let short = rest_short round kind k in
+        call_runs z p (length rest_code + behind) (stands.0, stands.1, stands.2, tt) (omega arith) shared
+        (copies_run some)
+        (λ s begun. record {
+          begins = record {
+            places = record {
+              stack = begun.begins.places.stack;
+              source = begun.begins.places.source;
+              target = begun.begins.places.target;
+              from_there = begun.begins.places.from_there;
+              to_there = begun.begins.places.to_there;
+            };
+            bytes = begun.begins.bytes;
+          };
+          stop = begun.stop;
+        })
+        (λ s t begun moved. moved.others 30 (λ e. omega arith) (λ e. omega arith) (λ e. omega arith))
+        (λ s t begun moved. record {
+          bytes = moved.bytes;
+          source = moved.source;
+          target = moved.target;
+          others = λ q g h l o. moved.others q g h l ∙ unwritten s.regs 30 (p + 4) q o;
+        })
+
+    rest_here : RunsHere z (p + 4) (length rest_code) rest_code (BeginsCopy rest) (HasCopied false rest)
+    rest_here =
+        let few = rest_few round kind k in
+        here z stands.3 (straight_runs_on false z rest can_rest (omega arith))
+
+    called_here : RunsHere z p (1 + (copier_steps round rounds pointer + 1) + length rest_code)
+        (call_code (length rest_code + behind) ∷ rest_code) BeginsRounds
+        (λ s u. (u.bytes ≡ copied false array k s.bytes)
+        × ((q : ℕ) → q ≢ 5 → q ≢ 6 → q ≢ 28 → q ≢ 30 → q ≢ 7 → u.regs q ≡ s.regs q))
+    called_here =
+        then_here z {xs = call_code (length rest_code + behind) ∷ []} {ys = rest_code} call_here rest_here
+        (λ s t begun called. rest_begins s t begun called)
+        (λ s t u begun called more. (
+          all_is s t u begun called more,
+          λ q g h l o m. more.others q g h m l o ∙ called.others q g h l o,
+        ))
+
+    -- x5, x6, x7, x28 and x30 are all that it writes
+    pub called_runs_on : RunsHere z p (1 + (copier_steps round rounds pointer + 1) + length rest_code)
+        (call_code (length rest_code + behind) ∷ rest_code) BeginsRounds (HasCopied false array)
+    called_runs_on =
+        weaken_here z {R' = HasCopied false array} called_here (λ s begun. begun)
+        (λ s u begun made. record { bytes = made.0; others = λ q g h m l o. made.1 q g h l o m })
+
+  -- With x7 before it.
+
+  abbrev bytes : ℕ
+  bytes = n * (in_round round kind * rounds)
+
+  abbrev bounded : Data → Data
+  bounded s = with_result 7 (sum_of bytes (s.regs 5)) s
+
+  bounded_begins : (s : Data) → BeginsArray array s → BeginsRounds (bounded s)
+  bounded_begins s begins =
+      let fits = inside in
+      let small = can.few in
+      let same = gone_are round kind rounds in
+      record {
+        begins = record {
+          places = record {
+            stack = begins.places.stack;
+            source = begins.places.source;
+            target = begins.places.target;
+            from_there = begins.places.from_there;
+            to_there = begins.places.to_there;
+          };
+          bytes = begins.bytes;
+        };
+        stop = ap (λ x. sum_of bytes x) begins.places.source ∙ omega arith;
+      }
+
+  module _ (p behind : ℕ) (stands : Placed z.code p (called_code round behind kind k)) (near : behind < 2 ^ 17)
+      (shared : Placed z.code (p + 4 * length (called_code round behind kind k) + 4 * behind) (copier_code round))
+      (some : 0 < rounds) where
+    abbrev bound : List Instr
+    bound = bound_code bytes
+
+    abbrev call : List Instr
+    call = call_code (length rest_code + behind) ∷ rest_code
+
+    there : p + 4 * length (called_code round behind kind k) + 4 * behind
+        ≡ p + 4 * length bound + 4 + 4 * (length rest_code + behind)
+    there = omega (arith, length-append bound call)
+
+    pub called_here_on : RunsHere z p (called_steps round kind k pointer) (called_code round behind kind k)
+        (BeginsArray array) (HasCopied false array)
+    called_here_on =
+        let fits = inside in
+        let small = can.few in
+        let same = gone_are round kind rounds in
+        counted_here z (counted (length bound) (copier_steps round rounds pointer) (length rest_code))
+        (then_here z {xs = bound} {ys = call} {P = BeginsArray array} {R = λ s t. t ≡ bounded s} {S = HasCopied false array}
+        (here z (Placed-left z.code p bound call stands) (bound_runs z bytes (omega arith)))
+        (called_runs_on (p + 4 * length bound) behind (Placed-right z.code p bound call stands)
+        (subst (λ q. Placed z.code q (copier_code round)) there shared) near some)
+        (λ s t begins made. subst BeginsRounds (sym made) (bounded_begins s begins))
+        (λ s t u begins made more. ended s u (subst (λ (x : Data). HasCopied false array x u) made more)))
+      where
+        counted : (b c e : ℕ) → b + (1 + (c + 1) + e) ≡ b + (1 + (c + 1)) + e
+        counted b c e = omega arith
+
+        ended : (s u : Data) → HasCopied false array (bounded s) u → HasCopied false array s u
+        ended s u more = record {
+          bytes = more.bytes;
+          others = λ q g h m l o. more.others q g h m l o ∙ unwritten s.regs 7 (sum_of bytes (s.regs 5)) q m;
+        }
+
+-- An array, by one or the other.
+
+module _ (z : Setting) (inward : Bool) (array : Numbers) (can : CanCopy z array) (pointer : ℕ)
+    (tested : IsTested array pointer) where
+  abbrev kind' : Kind
+  kind' = array.kind
+
+  abbrev count : ℕ
+  count = array.count
+
+  -- what goes as it is becomes what it means
+  as_meant : goes_as_it_is inward kind' ≡ true → (s t : Data) → HasCopied false array s t → HasCopied inward array s t
+  as_meant goes s t made = record {
+    bytes = made.bytes
+        ∙ ap (λ (vs : List ℕ). with_numbers s.bytes (element_bytes kind') array.target vs)
+        (map-id (numbers_at s.bytes (element_bytes kind') array.source count))
+        ∙ sym (values_same inward kind' s.bytes array.target (numbers_at s.bytes (element_bytes kind') array.source count)
+        goes);
+    others = made.others;
+  }
+
+  own_here : (pace : Pace) (p : ℕ) → Placed z.code p (copied_code pace (element_code inward kind') kind' count)
+      → RunsHere z p (copied_steps pace (element_code inward kind') kind' count)
+      (copied_code pace (element_code inward kind') kind' count) (BeginsArray array) (HasCopied inward array)
+  own_here pace p stands =
+      here z stands
+      (weaken_runs z {P' = BeginsArray array} {R' = HasCopied inward array} (copy_runs inward z array can pace)
+      (λ s begins. begins.places) (λ s t begins made. made))
+
+  abbrev whole : Pace → Option Round → ℕ → List Instr
+  whole pace copier behind =
+      array_code pace copier behind (element_code inward kind') (goes_as_it_is inward kind') kind' count
+
+  pub whole_here : (pace : Pace) (copier : Option Round) (p behind : ℕ) → Placed z.code p (whole pace copier behind)
+      → CopierStands z.code (p + 4 * length (whole pace copier behind)) behind copier
+      → RunsHere z p
+      (array_steps pace copier (element_code inward kind') (goes_as_it_is inward kind') kind' count pointer)
+      (whole pace copier behind) (BeginsArray array) (HasCopied inward array)
+  whole_here pace None p behind stands shared = own_here pace p stands
+  whole_here pace (Some round) p behind stands shared =
+      by (goes_by_call round (goes_as_it_is inward kind') kind' count) refl stands shared
+    where
+      by : (b : Bool) → goes_by_call round (goes_as_it_is inward kind') kind' count ≡ b
+          → Placed z.code p
+          (if b then called_code round behind kind' count else copied_code pace (element_code inward kind') kind' count)
+          → CopierStands z.code
+          (p + 4 * length (if b then called_code round behind kind' count
+          else copied_code pace (element_code inward kind') kind' count)) behind (Some round)
+          → RunsHere z p
+          (if b then called_steps round kind' count pointer else copied_steps pace (element_code inward kind') kind' count)
+          (if b then called_code round behind kind' count else copied_code pace (element_code inward kind') kind' count)
+          (BeginsArray array) (HasCopied inward array)
+      by true goes stands shared =
+          let worth = and_parts (goes_as_it_is inward kind' && is_worth_a_call kind' count)
+          (nat_le (in_round round kind') count) goes in
+          let plain = and_parts (goes_as_it_is inward kind') (is_worth_a_call kind' count) worth.0 in
+          weaken_here z {R' = HasCopied inward array}
+          (called_here_on z round array can pointer tested p behind stands shared.0
+          (placed z.code (p + 4 * length (called_code round behind kind' count) + 4 * behind) (copier_code round) shared.1)
+          (rounds_some round kind' count (leb-true (in_round round kind') count worth.1)))
+          (λ s begins. begins) (λ s t begins made. as_meant plain.0 s t made)
+      by false own stands shared = own_here pace p stands

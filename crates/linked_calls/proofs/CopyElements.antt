@@ -1,12 +1,14 @@
--- One element of an array, copied: inward, from where an argument points (x5) into its slot (x6), or back. What is done
--- with it is one computation for all kinds and both ways.
+-- One element of an array, copied from where x5 is to where x6 is: inward, from where an argument points into its slot,
+-- as what it means, or as it is. What is done with it is one computation for all kinds and both ways.
 use Rattle.std.specs.Prelude.{is_some}
-use Rattle.std.proofs.Common.{◌≡◌, ℕ, ◌+◌, ◌*◌, ◌/◌, ◌%◌, ◌<◌, ◌≤◌, ◌==◌, Bool, true, false, List, [], ◌∷◌, ◌++◌}
+use Rattle.std.proofs.Common.{◌≡◌, ℕ, suc, ◌+◌, ◌*◌, ◌/◌, ◌%◌, ◌<◌, ◌≤◌, ◌==◌, Bool, true, false, List, [], ◌∷◌, ◌++◌}
 use Rattle.std.proofs.Common.{length, Option, refl, sym, ap, arith}
 use Rattle.std.proofs.lemmas.Bool.{lt-ltb}
-use Rattle.linked_calls.specs.Paces.{few_elements, per_round}
+use Rattle.linked_calls.specs.Paces.{few_elements, per_round, times}
 use Rattle.linked_calls.specs.declared.pace.Pace.{Pace}
 use Rattle.linked_calls.specs.declared.pace.Pace.TheVariants.{Fast, Small}
+use Rattle.linked_calls.specs.declared.round.Round.{Round}
+use Rattle.linked_calls.specs.declared.round.Round.TheVariants.{Four, One, Two}
 use Rattle.linked_calls.proofs.Below.{after_all, are_straight, AreFit, AreMet, Boolean, copied_in_code}
 use Rattle.linked_calls.proofs.Below.{copied_out_code, Data, element_bytes, elements_code, Event, Instr, IsFit, Kind}
 use Rattle.linked_calls.proofs.Below.{LiesIn, meant, next_code, number_at, number_or_zero, sign_extended, Size, sum_of}
@@ -16,17 +18,6 @@ use Rattle.linked_calls.specs.Below.{Byte, Half, Word}
 use Rattle.linked_calls.proofs.Bytes.{same_truth, with_number_cut}
 
 -- The two ways.
-
-abbrev pub chosen : Bool → ℕ → ℕ → ℕ
-chosen true x y = x
-chosen false x y = y
-
--- where x5 and x6 say that the elements are, and where they go
-abbrev pub source : Bool → (ℕ → ℕ) → ℕ
-source inward regs = chosen inward (regs 5) (regs 6)
-
-abbrev pub target : Bool → (ℕ → ℕ) → ℕ
-target inward regs = chosen inward (regs 6) (regs 5)
 
 abbrev pub element_code : Bool → Kind → ℕ → List Instr
 element_code true kind = copied_in_code kind
@@ -61,49 +52,58 @@ pub elements_fit : (kind : Kind) (i k : ℕ) → i < k
 elements_fit Boolean i k few = omega arith
 elements_fit kind i k few = omega arith
 
+-- Rounds of a loop.
+
 -- so many rounds, and once more
-pub rounds_fit : (pace : Pace) (kind : Kind) (i k : ℕ) → i < k
-    → element_bytes kind * (per_round pace kind * i) + per_round pace kind * element_bytes kind
-    ≤ element_bytes kind * (per_round pace kind * k)
-rounds_fit Fast Boolean i k few = omega arith
-rounds_fit Fast kind i k few = omega arith
-rounds_fit Small Boolean i k few = omega arith
-rounds_fit Small kind i k few = omega arith
+pub rounds_fit : (round : Round) (kind : Kind) (i k : ℕ) → i < k
+    → element_bytes kind * (times round * i) + times round * element_bytes kind ≤ element_bytes kind * (times round * k)
+rounds_fit One Boolean i k few = omega arith
+rounds_fit One kind i k few = omega arith
+rounds_fit Two Boolean i k few = omega arith
+rounds_fit Two kind i k few = omega arith
+rounds_fit Four Boolean i k few = omega arith
+rounds_fit Four kind i k few = omega arith
 
 -- a round copies some, and few
-pub round_some : (pace : Pace) (kind : Kind) → 0 < per_round pace kind * element_bytes kind
-round_some Fast Boolean = omega arith
-round_some Fast kind = omega arith
-round_some Small Boolean = omega arith
-round_some Small kind = omega arith
+pub round_some : (round : Round) (kind : Kind) → 0 < times round * element_bytes kind
+round_some One Boolean = omega arith
+round_some One kind = omega arith
+round_some Two Boolean = omega arith
+round_some Two kind = omega arith
+round_some Four Boolean = omega arith
+round_some Four kind = omega arith
 
-pub round_few : (pace : Pace) (kind : Kind) → per_round pace kind ≤ 4
-round_few Fast Boolean = omega arith
-round_few Fast kind = omega arith
-round_few Small Boolean = omega arith
-round_few Small kind = omega arith
+pub round_few : (round : Round) → times round ≤ 4
+round_few One = omega arith
+round_few Two = omega arith
+round_few Four = omega arith
 
 -- rounds and what is left are all
-pub rounds_split : (pace : Pace) (kind : Kind) (k : ℕ)
-    → per_round pace kind * (k / per_round pace kind) + k % per_round pace kind ≡ k
-rounds_split Fast Boolean k = omega arith
-rounds_split Fast kind k = omega arith
-rounds_split Small Boolean k = omega arith
-rounds_split Small kind k = omega arith
+pub rounds_split : (round : Round) (k : ℕ) → times round * (k / times round) + k % times round ≡ k
+rounds_split One k = omega arith
+rounds_split Two k = omega arith
+rounds_split Four k = omega arith
 
 -- and few are left
-pub left_few : (pace : Pace) (kind : Kind) (k : ℕ) → k % per_round pace kind < 4
-left_few Fast Boolean k = omega arith
-left_few Fast kind k = omega arith
-left_few Small Boolean k = omega arith
-left_few Small kind k = omega arith
+pub left_few : (round : Round) (k : ℕ) → k % times round < 4
+left_few One k = omega arith
+left_few Two k = omega arith
+left_few Four k = omega arith
 
-pub round_inside : (pace : Pace) (kind : Kind) (i k : ℕ) → i < k / per_round pace kind
-    → per_round pace kind * i + per_round pace kind ≤ k
-round_inside Fast Boolean i k few = omega arith
-round_inside Fast kind i k few = omega arith
-round_inside Small Boolean i k few = omega arith
-round_inside Small kind i k few = omega arith
+pub round_inside : (round : Round) (i k : ℕ) → i < k → times round * i + times round ≤ times round * k
+round_inside One i k few = omega arith
+round_inside Two i k few = omega arith
+round_inside Four i k few = omega arith
+
+pub next_round : (round : Round) (i : ℕ) → times round * i + times round ≡ times round * suc i
+next_round One i = omega arith
+next_round Two i = omega arith
+next_round Four i = omega arith
+
+pub no_round : (round : Round) → 0 ≡ times round * 0
+no_round One = omega arith
+no_round Two = omega arith
+no_round Four = omega arith
 
 -- where there are not few elements, some go by rounds
 pub rounds_some : (pace : Pace) (kind : Kind) (k : ℕ) → few_elements pace kind ≤ k → 0 < k / per_round pace kind
@@ -131,6 +131,10 @@ pub element_even : (kind : Kind) (a i : ℕ) → a % element_bytes kind ≡ 0
 element_even Boolean a i even = omega arith
 element_even kind a i even = omega arith
 
+pub word_even : (kind : Kind) (a : ℕ) → a % 4 ≡ 0 → a % element_bytes kind ≡ 0
+word_even Boolean a even = omega arith
+word_even kind a even = omega arith
+
 -- The code of one element.
 
 -- the register that it writes
@@ -145,20 +149,24 @@ element_plain true kind offset near = simp (lt-ltb offset 4096 near)
 element_plain false kind offset near = simp (lt-ltb offset 4096 near)
 
 -- those of a round, and x5 and x6 moved
-abbrev pub round_code : Pace → Bool → Kind → List Instr
-round_code pace inward kind =
-    elements_code (element_code inward kind) (element_bytes kind) 0 (per_round pace kind) ++ next_code pace kind
+abbrev pub round_code : Bool → Kind → ℕ → List Instr
+round_code inward kind count =
+    elements_code (element_code inward kind) (element_bytes kind) 0 count ++ next_code (count * element_bytes kind)
 
-pub round_length : (pace : Pace) (inward : Bool) (kind : Kind)
-    → (0 < length (round_code pace inward kind)) × (length (round_code pace inward kind) < 1024)
-round_length Fast true Boolean = (omega arith, omega arith)
-round_length Fast false Boolean = (omega arith, omega arith)
-round_length Fast true kind = (omega arith, omega arith)
-round_length Fast false kind = (omega arith, omega arith)
-round_length Small true Boolean = (omega arith, omega arith)
-round_length Small false Boolean = (omega arith, omega arith)
-round_length Small true kind = (omega arith, omega arith)
-round_length Small false kind = (omega arith, omega arith)
+pub round_length : (round : Round) (inward : Bool) (kind : Kind)
+    → (0 < length (round_code inward kind (times round))) × (length (round_code inward kind (times round)) < 1024)
+round_length One true Boolean = (omega arith, omega arith)
+round_length One false Boolean = (omega arith, omega arith)
+round_length One true kind = (omega arith, omega arith)
+round_length One false kind = (omega arith, omega arith)
+round_length Two true Boolean = (omega arith, omega arith)
+round_length Two false Boolean = (omega arith, omega arith)
+round_length Two true kind = (omega arith, omega arith)
+round_length Two false kind = (omega arith, omega arith)
+round_length Four true Boolean = (omega arith, omega arith)
+round_length Four false Boolean = (omega arith, omega arith)
+round_length Four true kind = (omega arith, omega arith)
+round_length Four false kind = (omega arith, omega arith)
 
 pub element_fit : (Allows : Option Event → Type 0) (inward : Bool) (kind : Kind) (offset a b : ℕ)
     → IsFit Allows (element_bytes kind) (event.Load a (element_size kind)) a
@@ -175,8 +183,7 @@ pub record Reached (n value offset a : ℕ) (d : Data) : Type 0 where
   pub there : is_some (number_at d.bytes n a) ≡ true
 
 pub element_met : (inward : Bool) (kind : Kind) (offset a b : ℕ) (d : Data)
-    → Reached (element_bytes kind) (source inward d.regs) offset a d
-    → Reached (element_bytes kind) (target inward d.regs) offset b d
+    → Reached (element_bytes kind) (d.regs 5) offset a d → Reached (element_bytes kind) (d.regs 6) offset b d
     → AreMet (element_code inward kind offset) (a ∷ b ∷ []) d
 element_met true Boolean offset a b d one other = (
   record { address = one.is; data_there = one.there },

@@ -1,16 +1,17 @@
--- The code that copies an array is short, so that a branch and a jump go over it.
-use Rattle.std.proofs.Common.{◌≡◌, ℕ, zero, suc, ◌+◌, ◌*◌, ◌%◌, ◌≤◌, nat_lt, Bool, true, false}
+-- The code that copies an array is short, so that jumps reach over it.
+use Rattle.std.proofs.Common.{◌≡◌, ℕ, zero, suc, ◌+◌, ◌*◌, ◌%◌, ◌<◌, ◌≤◌, nat_lt, Bool, true, false}
 use Rattle.std.proofs.Common.{[], ◌∷◌, length, if◌then◌else◌, refl, arith, length-append}
 use Rattle.std.proofs.lemmas.Bool.{ltb-true}
 use Rattle.codegen.proofs.expression_code_lemmas.TermLengths.{constant_length}
-use Rattle.linked_calls.proofs.Below.{Boolean, by_words_code, copied_code, CopiesAreShort}
-use Rattle.linked_calls.proofs.Below.{element_bytes, elements_code, Instr, Kind, per_word}
-use Rattle.linked_calls.proofs.Below.{rounds_code, Uint32}
+use Rattle.linked_calls.proofs.Below.{Boolean, copied_code, copied_out_code, CopiesAreShort, element_bytes}
+use Rattle.linked_calls.proofs.Below.{elements_code, Instr, Kind, rounds_code}
 use Rattle.linked_calls.proofs.CopyElements.{element_code, few_enough, left_few, round_few}
 use Rattle.linked_calls.specs.Below.{Addi, Immediate}
-use Rattle.linked_calls.specs.FunctionCode.{bound_code, far_code}
-use Rattle.linked_calls.specs.Paces.{few_elements}
+use Rattle.linked_calls.specs.FunctionCode.{bound_code, called_code, far_code, in_round}
+use Rattle.linked_calls.specs.Paces.{few_elements, own_round}
 use Rattle.linked_calls.specs.declared.pace.Pace.{Pace}
+use Rattle.linked_calls.specs.declared.round.Round.{Round}
+use Rattle.linked_calls.specs.declared.round.Round.TheVariants.{Four, One, Two}
 
 element_short : (inward : Bool) (kind : Kind) (offset : ℕ) → length (element_code inward kind offset) ≤ 3
 element_short true Boolean offset = omega arith
@@ -47,8 +48,8 @@ rounds_short pace inward kind count =
       bound_short,
       elements_short inward kind,
       length-append {A = Instr},
-      round_few pace kind,
-      left_few pace kind count,
+      round_few (own_round pace kind),
+      left_few (own_round pace kind) count,
     )
 
 -- so many elements of any kind
@@ -64,21 +65,33 @@ copied_short pace inward kind count = by (nat_lt count (few_elements pace kind))
         omega (arith, few_enough pace kind, elements_short inward kind (element_bytes kind) 0 count)
     by false many = rounds_short pace inward kind count
 
-rest_few : (kind : Kind) (count : ℕ) → count % per_word kind ≤ 3
-rest_few Boolean count = omega arith
-rest_few kind count = omega arith
+-- Behind a call few are left.
 
--- and word by word
-pub by_words_short : (pace : Pace) (inward : Bool) (kind : Kind) (count : ℕ)
-    → length (by_words_code pace (element_code inward) kind count) ≤ 60
-by_words_short pace inward kind count =
-    let few = rest_few kind count in
-    omega (arith, copied_short pace inward Uint32, elements_short inward kind, length-append {A = Instr})
+pub rest_few : (round : Round) (kind : Kind) (count : ℕ) → count % in_round round kind < 16
+rest_few One Boolean count = omega arith
+rest_few One kind count = omega arith
+rest_few Two Boolean count = omega arith
+rest_few Two kind count = omega arith
+rest_few Four Boolean count = omega arith
+rest_few Four kind count = omega arith
+
+pub rest_short : (round : Round) (kind : Kind) (count : ℕ)
+    → length (elements_code (copied_out_code kind) (element_bytes kind) 0 (count % in_round round kind)) ≤ 45
+rest_short round kind count =
+    omega (
+      arith,
+      rest_few round kind count,
+      elements_short false kind (element_bytes kind) 0 (count % in_round round kind),
+    )
+
+pub called_short : (round : Round) (behind : ℕ) (kind : Kind) (count : ℕ)
+    → length (called_code round behind kind count) ≤ 50
+called_short round behind kind count =
+    omega (arith, bound_short, rest_short round kind count, length-append {A = Instr})
 
 pub copies_are_short : CopiesAreShort
-copies_are_short pace kind count = record {
+copies_are_short pace round behind kind count = record {
   taken = let short = copied_short pace true kind count in omega arith;
-  taken_by_words = let short = by_words_short pace true kind count in omega arith;
   handed = let short = copied_short pace false kind count in omega arith;
-  handed_by_words = let short = by_words_short pace false kind count in omega arith;
+  called = let short = called_short round behind kind count in omega arith;
 }

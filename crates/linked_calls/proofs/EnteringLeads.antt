@@ -2,13 +2,14 @@
 use Rattle.std.specs.Prelude.{is_some}
 use Rattle.std.proofs.Common.{◌≡◌, ◌≢◌, ℕ, ◌+◌, ◌-◌, ◌*◌, ◌^◌, ◌<◌, ◌≤◌, Bool, true, false, nat_lt, if◌then◌else◌, List}
 use Rattle.std.proofs.Common.{[], None, Option}
-use Rattle.std.proofs.Common.{◌∷◌, ◌++◌, length, map, Some, inl, inr, ⊎_elim, refl, sym, ap, ◌∙◌, subst, arith}
+use Rattle.std.proofs.Common.{◌∷◌, ◌++◌, length, map, Some, inl, inr, ⊎_elim, refl, sym, ap, ◌∙◌, subst, arith, length-append}
 use Rattle.std.proofs.lemmas.Bool.{cases_lt, ltb-false, ltb-true}
 use Rattle.std.proofs.lemmas.List.{length-map}
-use Rattle.codegen.proofs.program_logic_lemmas.Counted.{in_steps, makes_then, Runs, Setting, then_runs}
+use Rattle.codegen.proofs.program_logic_lemmas.Counted.{makes_then, Runs, Setting}
 use Rattle.linked_calls.proofs.Below.{above_frame, AreBytes, AreData, first_argument}
 use Rattle.linked_calls.proofs.Below.{arguments_end, arguments_of, at}
-use Rattle.linked_calls.proofs.Below.{ByteMap, MachineCode, Data, enter_code, entry_code, Fields, found}
+use Rattle.linked_calls.proofs.Below.{arguments_code, ByteMap, MachineCode, Data, entry_code, Fields, found, Instr}
+use Rattle.linked_calls.proofs.Below.{Placed-left, Placed-right}
 use Rattle.linked_calls.proofs.Below.{frame_room, HasFrame, IsCalled, IsImage, IsOfCall, IsSite}
 use Rattle.linked_calls.proofs.Below.{LeadsWithin, number_at, number_at_same, room_base, saved_registers}
 use Rattle.linked_calls.proofs.Below.{body_words, CallSite, kept_of, needed_from, needed_of, stacked_offset, State, unwritten}
@@ -16,7 +17,7 @@ use Rattle.linked_calls.proofs.Below.{with_numbers, word_in}
 use Rattle.linked_calls.specs.Calls.{ArePassed}
 use Rattle.linked_calls.proofs.AllArguments.{AreKnown, TakesAll, TakingBegins, all_held, all_taken, all_taken_data}
 use Rattle.linked_calls.proofs.HeldArguments.{held_agree, held_within}
-use Rattle.linked_calls.proofs.AllArguments.{all_taken_outside, arguments_runs, call_setting}
+use Rattle.linked_calls.proofs.AllArguments.{all_taken_outside, arguments_here, call_setting}
 use Rattle.linked_calls.proofs.AllArguments.{taking_registers}
 use Rattle.linked_calls.proofs.Between.{AreSaved, EnteringLeads, IsEntered, IsOutsideRoom, body_at}
 use Rattle.linked_calls.proofs.Between.{enter_steps, saved_at, untouched_registers}
@@ -28,13 +29,13 @@ use Rattle.linked_calls.proofs.KeptRegisters.{kept_fitting}
 use Rattle.linked_calls.proofs.KnownArguments.{all_known}
 use Rattle.linked_calls.proofs.Parts.{same_number}
 use Rattle.linked_calls.proofs.Passed.{Passes, StandAsPassed, all_ready, still_passed}
-use Rattle.linked_calls.proofs.Pieces.{does}
+use Rattle.linked_calls.proofs.PlacedRuns.{counted_here, does_here, here, RunsHere, then_here}
 use Rattle.linked_calls.proofs.Rooms.{RoomNumbers, outside_frame, place_stacked, room_numbers}
 use Rattle.linked_calls.proofs.SameRegisters.{AreSame, are_none, same_beside}
 use Rattle.linked_calls.proofs.SavedRegisters.{stored_are_saved, saved_same, saved_taken}
-use Rattle.linked_calls.proofs.Standing.{enter_placed}
+use Rattle.linked_calls.proofs.Standing.{arguments_copier, enter_placed, entering_code}
 use Rattle.linked_calls.proofs.BlankWords.{frame_readied, IsReadied}
-use Rattle.linked_calls.specs.FunctionCode.{frame_code}
+use Rattle.linked_calls.specs.FunctionCode.{frame_code, from_body}
 use Rattle.hepurita.specs.Begun.{IsBegun}
 use Rattle.hepurita.specs.Blank.{IsBlank}
 use Rattle.hepurita.specs.Needs.{Needs}
@@ -312,12 +313,28 @@ module _ (image : Fields) (needs : Needs) (pace : Pace) (code : MachineCode) (si
       there = room_there;
     }
 
-  enter_part : Runs z (entry_steps image pace site.pointers + steps_for pace room needs.blank + arguments_steps image pace site.pointers needs.spared 0 image.slots)
-      (enter_code image needs pace) Called
+  -- where the arguments' code stands
+
+  abbrev first : List Instr
+  first = entry_code image ++ frame_code pace room needs.blank
+
+  abbrev taking : List Instr
+  taking = arguments_code image pace needs.spared (from_body image pace) 0 image.slots
+
+  taking_ends : site.entry + 4 * length first + 4 * length taking ≡ body_at image needs pace site
+  taking_ends = omega (arith, length-append first taking)
+
+  enter_part : RunsHere z site.entry (entry_steps image pace site.pointers + steps_for pace room needs.blank + arguments_steps image pace site.pointers needs.spared 0 image.slots)
+      (entering_code image needs pace) Called
       (λ d t. IsEntered image needs pace site (at_call d) (at (body_at image needs pace site) t))
   enter_part =
-      then_runs z {S = λ d t. IsEntered image needs pace site (at_call d) (at (body_at image needs pace site) t)} framed_part
-      (arguments_runs image site code numbers pace needs.spared 0 image.slots (omega arith) known)
+      let stands = enter_placed image code site is_site in
+      then_here z {xs = first} {ys = taking}
+      {S = λ d t. IsEntered image needs pace site (at_call d) (at (body_at image needs pace site) t)}
+      (here z (Placed-left code site.entry first taking stands) framed_part)
+      (arguments_here image site code numbers pace needs.spared (site.entry + 4 * length first) (from_body image pace) 0
+      image.slots (omega arith) known (Placed-right code site.entry first taking stands)
+      (arguments_copier image code site is_site (site.entry + 4 * length first) taking_ends))
       taking_begins is_entered
 
 -- The state at the call, as the part has it.
@@ -329,8 +346,8 @@ at_own site image s called = ap (λ p. at p (record { regs = s.regs; bytes = s.b
 pub enters : EnteringLeads
 enters image needs pace code site is is_site =
     let z = call_setting image code site in
-    let part = does z site.entry (enter_code image needs pace) (enter_placed image code site is_site)
-    (in_steps z (sym (enter_steps_are image pace site.pointers needs))
+    let part = does_here z
+    (counted_here z (sym (enter_steps_are image pace site.pointers needs))
     (enter_part image needs pace code site is is_site (room_numbers image code site is_site))) in
     record {
       shown = part.shown;

@@ -4,21 +4,20 @@ use Rattle.hepurita.specs.Needs.{Needs}
 use Rattle.std.specs.Prelude.{unwrap_or, is_some, IfSome}
 use Rattle.std.specs.Option.{option_map}
 use Rattle.std.proofs.Common.{◌≡◌, ℕ, suc, ◌+◌, ◌-◌, ◌*◌, ◌<◌, ◌≤◌, ◌==◌, List, [], ◌∷◌, ◌++◌, length, Option}
-use Rattle.std.proofs.Common.{Some, None, drop, inl, refl, sym, ap, ◌∙◌, subst, arith, length-append, append_assoc}
+use Rattle.std.proofs.Common.{Some, None, drop, inl, refl, sym, ap, ◌∙◌, subst, arith, length-append}
 use Rattle.std.proofs.lemmas.List.Elements.{All-head}
-use Rattle.codegen.proofs.program_logic_lemmas.Counted.{as_code, computes_runs, makes_then, Runs, Setting, then_runs}
-use Rattle.codegen.proofs.program_logic_lemmas.Counted.{weaken_runs}
+use Rattle.codegen.proofs.program_logic_lemmas.Counted.{computes_runs, Runs, Setting, weaken_runs}
 use Rattle.linked_calls.proofs.Below.{address_code, AreZeroed, arguments_end, arrays_in, at, ByteMap}
 use Rattle.linked_calls.proofs.Below.{clear_registers_code, MachineCode, Data, Fields, frame_room}
-use Rattle.linked_calls.proofs.Below.{function_words, Instr, IsAt, IsImage, IsLeft, IsOfCall, IsSite, JumpRegister}
-use Rattle.linked_calls.proofs.Below.{kept_registers, LeadsWithin, number_at, Placed-left, Placed-right}
-use Rattle.linked_calls.proofs.Below.{restore_code, result_code, results_code, results_in, ResultSlot, room_base}
+use Rattle.linked_calls.proofs.Below.{Instr, IsAt, IsImage, IsLeft, IsOfCall, IsSite, JumpRegister}
+use Rattle.linked_calls.proofs.Below.{kept_registers, LeadsWithin, number_at, Placed, Placed-left, Placed-right}
+use Rattle.linked_calls.proofs.Below.{leave_code, restore_code, result_code, results_code, results_in, ResultSlot, room_base}
 use Rattle.linked_calls.proofs.Below.{above_frame, body_words, kept_of, room_of, runs_steps}
 use Rattle.linked_calls.proofs.Below.{saved_registers, scratch_registers, CallSite, State, unwritten, wipe_code}
 use Rattle.linked_calls.proofs.Below.{with_arrays, with_register, with_result, word_in}
 use Rattle.linked_calls.specs.Below.{IsResultSlot, result_end, slots_end}
 use Rattle.linked_calls.proofs.AllArguments.{AreKnown, ArgumentsBegin, call_setting, copying_registers}
-use Rattle.linked_calls.proofs.AllResults.{all_handed_apart, all_handed_are, results_runs}
+use Rattle.linked_calls.proofs.AllResults.{all_handed_apart, all_handed_are, HandsBack, results_here}
 use Rattle.linked_calls.proofs.Between.{AreReady, CanLeave, Leaves, LeavesEverywhere, leave_at, leave_steps}
 use Rattle.linked_calls.proofs.Between.{saved_at, untouched_registers}
 use Rattle.linked_calls.proofs.GoingBack.{goes_back}
@@ -27,30 +26,41 @@ use Rattle.linked_calls.proofs.KnownArguments.{all_known}
 use Rattle.linked_calls.proofs.SectionSteps.{outputs_steps, leave_steps_are}
 use Rattle.linked_calls.proofs.Parts.{load_runs, same_number}
 use Rattle.linked_calls.proofs.Bytes.{number_there}
-use Rattle.linked_calls.proofs.Pieces.{does}
+use Rattle.linked_calls.proofs.PlacedRuns.{does_here, here, RunsHere, then_here}
 use Rattle.linked_calls.proofs.Restoring.{lasts_run}
 use Rattle.linked_calls.proofs.Rooms.{RoomNumbers, room_numbers}
 use Rattle.linked_calls.proofs.SameRegisters.{IsNone, all_same, same_beside, same_then, still_same}
 use Rattle.linked_calls.proofs.SavedRegisters.{saved_same}
-use Rattle.linked_calls.proofs.Standing.{function_length, leave_placed}
+use Rattle.linked_calls.proofs.Standing.{leave_placed, results_copier}
+use Rattle.linked_calls.specs.FunctionCode.{before_return, end_code}
 use Rattle.linked_calls.specs.declared.pace.Pace.{Pace}
 
 -- Where the code stands.
 
-abbrev front : Fields → Pace → List Instr
-front image pace =
-    result_code image.returned ++ results_code image pace 0 image.slots ++ restore_code
-    image ++ wipe_code pace (room_of image) ++ clear_registers_code scratch_registers
+-- the result and the arrays, and then all but the last instruction
 
-last_place : (image : Fields) (needs : Needs) (pace : Pace) (site : CallSite)
-    → leave_at image needs pace site + 4 * length (front image pace) ≡ site.entry + 4 * (length (function_words image needs pace) - 1)
-last_place image needs pace site =
-    let count = function_length image needs pace in
-    let last = length-append (front image pace) (JumpRegister 0 1 0 ∷ []) in
+abbrev first : Fields → Pace → List Instr
+first image pace = result_code image.returned ++ results_code image pace (length (end_code image pace)) 0 image.slots
+
+abbrev lasts : Fields → Pace → List Instr
+lasts image pace = restore_code image ++ wipe_code pace (room_of image) ++ clear_registers_code scratch_registers
+
+abbrev returning : List Instr
+returning = JumpRegister 0 1 0 ∷ []
+
+abbrev front : Fields → Pace → List Instr
+front image pace = first image pace ++ lasts image pace
+
+leave_length : (image : Fields) (pace : Pace) → length (leave_code image pace) ≡ length (front image pace) + 1
+leave_length image pace =
+    let a = length-append (first image pace) (end_code image pace) in
+    let b = length-append (lasts image pace) returning in
+    let c = length-append (first image pace) (lasts image pace) in
     omega arith
 
-grouped : (x r w c : List Instr) → x ++ (r ++ w ++ c) ≡ x ++ r ++ w ++ c
-grouped x r w c = simp append_assoc
+last_place : (image : Fields) (needs : Needs) (pace : Pace) (site : CallSite)
+    → leave_at image needs pace site + 4 * length (front image pace) ≡ site.entry + 4 * before_return image needs pace
+last_place image needs pace site = let count = leave_length image pace in omega arith
 
 module _ (image : Fields) {needs : Needs} {pace : Pace} (code : MachineCode) (site : CallSite) (is : IsImage image)
     (at_site : IsSite image needs pace code site)
@@ -108,25 +118,65 @@ module _ (image : Fields) {needs : Needs} {pace : Pace} (code : MachineCode) (si
     bytes : t.bytes ≡ left_bytes s.bytes
     others : (q : ℕ) → IsNone (10 ∷ copying_registers) q → t.regs q ≡ s.regs q
 
-  handed_runs : Runs z (length (result_code image.returned) + outputs_steps image pace site.pointers 0 image.slots)
-      (result_code image.returned ++ results_code image pace 0 image.slots) Starts Handed
-  handed_runs =
-      makes_then z {P = Starts} {f = λ s. with_result 10 (result_of s.bytes image.returned) s} {S = Handed}
-      (result_runs image.returned (slots_end 0 image.slots) is.returned is.returned_inside)
-      (results_runs image code site numbers pace known)
-      (λ s begins. record {
+  -- Where they stand.
+
+  abbrev start : ℕ
+  start = leave_at image needs pace site
+
+  abbrev result : List Instr
+  result = result_code image.returned
+
+  abbrev results : List Instr
+  results = results_code image pace (length (end_code image pace)) 0 image.slots
+
+  all_placed : Placed code start (first image pace ++ end_code image pace)
+  all_placed = leave_placed image code site at_site
+
+  first_placed : Placed code start (result ++ results)
+  first_placed = Placed-left code start (first image pace) (end_code image pace) all_placed
+
+  end_placed : Placed code (start + 4 * length (first image pace)) (lasts image pace ++ returning)
+  end_placed = Placed-right code start (first image pace) (end_code image pace) all_placed
+
+  results_behind : start + 4 * length result + 4 * (length results + length (end_code image pace))
+      ≡ start + 4 * length (leave_code image pace)
+  results_behind =
+      let a = length-append (first image pace) (end_code image pace) in
+      let b = length-append result results in
+      omega arith
+
+  handed_here : RunsHere z start (length result + outputs_steps image pace site.pointers 0 image.slots) (result ++ results)
+      Starts Handed
+  handed_here =
+      then_here z {xs = result} {ys = results} {P = Starts} {R = λ s t. t ≡ with_result 10 (result_of s.bytes image.returned) s}
+      {S = Handed}
+      (here z (Placed-left code start result results first_placed)
+      (result_runs image.returned (slots_end 0 image.slots) is.returned is.returned_inside))
+      (results_here image code site numbers pace (start + 4 * length result) (length (end_code image pace)) known
+      (Placed-right code start result results first_placed)
+      (results_copier image code site at_site (start + 4 * length result) results_behind))
+      (λ s t begins made. subst (ArgumentsBegin image site (λ bytes. AreReady image site bytes 0 image.slots)) (sym made)
+      (record {
         stack = begins.stack;
         bytes = begins.bytes;
         there = begins.there;
         ready = begins.ready;
-      })
-      (λ s u begins takes. record {
-        result = (same_beside copying_registers u.regs (with_register s.regs 10 (result_of s.bytes image.returned))
-            takes.others (10 ∷ []) refl).0;
-        bytes = takes.bytes;
-        others = λ q none. takes.others q none.1
-            ∙ unwritten s.regs 10 (result_of s.bytes image.returned) q none.0;
-      })
+      }))
+      (λ s t u begins made takes. ended s t u made takes)
+    where
+      ended : (s t u : Data) → t ≡ with_result 10 (result_of s.bytes image.returned) s
+          → HandsBack (λ x. with_arrays site x.bytes 0 image.slots (arrays_in base x.bytes image.slots)) t u → Handed s u
+      ended s t u made takes =
+          let from = subst
+          (λ (x : Data). HandsBack (λ y. with_arrays site y.bytes 0 image.slots (arrays_in base y.bytes image.slots)) x u)
+          made takes in
+          record {
+            result = (same_beside copying_registers u.regs (with_register s.regs 10 (result_of s.bytes image.returned))
+                from.others (10 ∷ []) refl).0;
+            bytes = from.bytes;
+            others = λ q none. from.others q none.1
+                ∙ unwritten s.regs 10 (result_of s.bytes image.returned) q none.0;
+          }
 
   -- All but the last instruction.
 
@@ -145,18 +195,17 @@ module _ (image : Fields) {needs : Needs} {pace : Pace} (code : MachineCode) (si
       (length (address_code 5 (frame_room image)) + length (kept_of image) + 1 +
       runs_steps pace (frame_room image + above_frame image) + 14)
 
-  front_runs : Runs z front_steps (front image pace) Starts LeavesAll
-  front_runs =
+  front_here : RunsHere z start front_steps (front image pace) Starts LeavesAll
+  front_here =
       let ends = numbers.ends in
       let room = frame_room image in
-      let first = result_code image.returned ++ results_code image pace 0 image.slots in
-      let rest = restore_code image ++ wipe_code pace (room_of image) ++ clear_registers_code scratch_registers in
-      as_code z (grouped first (restore_code image) (wipe_code pace (room_of image)) (clear_registers_code scratch_registers))
-      (then_runs z {P = Starts} {S = LeavesAll} handed_runs
+      then_here z {xs = first image pace} {ys = lasts image pace} {P = Starts} {S = LeavesAll} handed_here
+      (here z
+      (Placed-left code (start + 4 * length (first image pace)) (lasts image pace) returning end_placed)
       (lasts_run z (body_words image.words) base room (above_frame image) numbers.even numbers.whole
       numbers.above_whole (omega (arith, numbers.above_least)) numbers.above_most (omega arith)
       (λ x low high. inl ((omega arith, omega arith), omega arith))
-      (λ sp x low high above. inl ((omega arith, omega arith), above)) pace)
+      (λ sp x low high above. inl ((omega arith, omega arith), above)) pace))
       (λ s t begins handed. record {
         stack = (same_beside (10 ∷ copying_registers) t.regs s.regs handed.others (2 ∷ []) refl).0 ∙ begins.stack;
         there = λ x low high.
@@ -183,7 +232,7 @@ module _ (image : Fields) {needs : Needs} {pace : Pace} (code : MachineCode) (si
         cleared = lasts.cleared;
         memory = subst (λ x. AreZeroed base x (left_bytes s.bytes) u.bytes) ends
             (subst (λ (b : ByteMap). AreZeroed base (base + (room + above_frame image)) b u.bytes) handed.bytes lasts.zeroed);
-      }))
+      })
 
   -- The whole.
 
@@ -192,8 +241,10 @@ module _ (image : Fields) {needs : Needs} {pace : Pace} (code : MachineCode) (si
 
   last_stands : IsAt code last_at (JumpRegister 0 1 0)
   last_stands =
-      let last = Placed-right code (leave_at image needs pace site) (front image pace) (JumpRegister 0 1 0 ∷ [])
-      (leave_placed image code site at_site) in
+      let count = length-append (first image pace) (lasts image pace) in
+      let there : start + 4 * length (first image pace) + 4 * length (lasts image pace) ≡ last_at = omega arith in
+      let last = subst (λ q. Placed code q returning) there
+      (Placed-right code (start + 4 * length (first image pace)) (lasts image pace) returning end_placed) in
       record { aligned = last.0; word = last.2; in_range = (omega arith, omega arith, omega arith) }
 
   steps_counted : suc front_steps ≡ leave_steps image pace site.pointers
@@ -203,9 +254,7 @@ module _ (image : Fields) {needs : Needs} {pace : Pace} (code : MachineCode) (si
 
   leaves_here : Leaves image needs pace code site
   leaves_here =
-      let one = does z (leave_at image needs pace site) (front image pace)
-      (Placed-left code (leave_at image needs pace site) (front image pace) (JumpRegister 0 1 0 ∷ [])
-      (leave_placed image code site at_site)) front_runs in
+      let one = does_here z front_here in
       record {
         shown = one.shown;
         runs = λ regs s can.

@@ -1,4 +1,5 @@
 mod Below
+pub mod PlacedRuns
 pub mod Pieces
 pub mod Bytes
 pub mod Parts
@@ -9,13 +10,16 @@ pub mod CopyNumbers
 pub mod CopyLengths
 pub mod MovedBytes
 pub mod Alignment
+pub mod SharedCode
 pub mod CopyArrays
 pub mod Copies
+pub mod Copier
 pub mod Words
 pub mod Cleared
 pub mod SameRegisters
 pub mod Between
 pub mod Rooms
+pub mod Nearness
 pub mod Standing
 pub mod Unwritten
 pub mod StayingBytes
@@ -37,4 +41,5 @@ pub mod LeavingEverywhere
 pub mod WithinParameters
 pub mod Calling
 pub mod SectionLemmas
+pub mod Distances
 pub mod WorkedFunction

@@ -7,12 +7,12 @@ use Rattle.std.proofs.Common.{arith, eq-eqb, ne_eqb}
 use Rattle.std.proofs.Math.Path.{fun_ext}
 use Rattle.std.proofs.lemmas.Bool.{cases_lt, false≢true}
 use Rattle.std.proofs.lemmas.List.{map-id}
-use Rattle.linked_calls.proofs.Below.{AreBytes, Boolean, ByteMap, element_bytes, goes_in_by_words, goes_out_by_words, Kind}
+use Rattle.linked_calls.proofs.Below.{AreBytes, Boolean, ByteMap, element_bytes, Kind}
 use Rattle.linked_calls.proofs.Below.{numbers_at, Uint16, Uint32, Uint8, with_number, with_number_outside, with_numbers}
 use Rattle.linked_calls.proofs.Bytes.{AreData, IsOutside, number_there, with_number_cut}
 use Rattle.linked_calls.proofs.CopyElements.{copied_value}
 use Rattle.linked_calls.specs.Below.{MutableArray, number_at}
-use Rattle.linked_calls.specs.FunctionCode.{is_open}
+use Rattle.linked_calls.specs.FunctionCode.{goes_in_as_it_is, is_open}
 use Rattle.linked_calls.specs.Meant.{meant}
 use Rattle.rv_machine.specs.Bytes.{joined}
 
@@ -126,29 +126,26 @@ module _ (source : ByteMap) (are : AreBytes source) where
       (number_moved target n a b (λ x low high. there x low (omega arith)))
       (numbers_moved one n (a + n) (b + n) k (λ x low high. there x (omega arith) (omega arith))))
 
--- words, and numbers of another size behind them, are as many bytes as numbers of that size alone
-pub words_then : (bytes : ByteMap) (n from to words rest all : ℕ) → AreBytes bytes → n * all ≡ 4 * words + n * rest
-    → AreData from (from + n * all) bytes
-    → with_numbers (with_numbers bytes 4 to (numbers_at bytes 4 from words)) n (to + 4 * words)
-    (numbers_at bytes n (from + 4 * words) rest)
+-- so many bytes, and numbers behind them, are as many bytes as numbers of that size alone
+pub moved_then : (bytes middle : ByteMap) (n from to gone rest all : ℕ) → AreBytes bytes → n * all ≡ gone + n * rest
+    → AreData from (from + n * all) bytes → AreMoved bytes bytes middle from to gone
+    → with_numbers middle n (to + gone) (numbers_at bytes n (from + gone) rest)
     ≡ with_numbers bytes n to (numbers_at bytes n from all)
-words_then bytes n from to words rest all are count there =
-    let by_words = with_numbers bytes 4 to (numbers_at bytes 4 from words) in
-    let behind = with_numbers by_words n (to + 4 * words) (numbers_at bytes n (from + 4 * words) rest) in
+moved_then bytes middle n from to gone rest all are count there moved =
+    let behind = with_numbers middle n (to + gone) (numbers_at bytes n (from + gone) rest) in
     one_moved bytes bytes behind (with_numbers bytes n to (numbers_at bytes n from all)) from to (n * all)
     (subst (λ m. AreMoved bytes bytes behind from to m) (sym count)
-    (moved_on bytes by_words bytes behind from to (4 * words) (n * rest)
-    (numbers_moved bytes are bytes 4 from to words (λ x low high. there x low (omega arith)))
-    (numbers_moved bytes are by_words n (from + 4 * words) (to + 4 * words) rest
+    (moved_on bytes middle bytes behind from to gone (n * rest) moved
+    (numbers_moved bytes are middle n (from + gone) (to + gone) rest
     (λ x low high. there x (omega arith) (omega arith)))))
     (numbers_moved bytes are bytes n from to all there)
 
--- What elements that go by words become is nothing else.
+-- What elements that go as they are become is nothing else.
 
 -- whether they go so, by the way
-abbrev pub goes_by_words : Bool → Kind → Bool
-goes_by_words true kind = goes_in_by_words kind
-goes_by_words false kind = goes_out_by_words kind
+abbrev pub goes_as_it_is : Bool → Kind → Bool
+goes_as_it_is true kind = goes_in_as_it_is kind
+goes_as_it_is false kind = true
 
 cut_numbers : (bytes : ByteMap) (n at : ℕ) (vs : List ℕ)
     → with_numbers bytes n at (map (λ v. v % 256 ^ n) vs) ≡ with_numbers bytes n at vs
@@ -158,20 +155,14 @@ cut_numbers bytes n at (v ∷ vs) =
     ∙ cut_numbers (with_number bytes n at v) n (at + n) vs
 
 -- a number that is copied into its slot is what it is
-pub values_same : (inward : Bool) (kind : Kind) (bytes : ByteMap) (at : ℕ) (vs : List ℕ) → goes_by_words inward kind ≡ true
+pub values_same : (inward : Bool) (kind : Kind) (bytes : ByteMap) (at : ℕ) (vs : List ℕ) → goes_as_it_is inward kind ≡ true
     → with_numbers bytes (element_bytes kind) at (map (copied_value inward kind) vs)
     ≡ with_numbers bytes (element_bytes kind) at vs
 values_same true Boolean bytes at vs goes = absurd (false≢true goes)
 values_same true Uint8 bytes at vs goes = cut_numbers bytes 1 at vs
 values_same true Uint16 bytes at vs goes = cut_numbers bytes 2 at vs
-values_same true Uint32 bytes at vs goes = absurd (false≢true goes)
+values_same true Uint32 bytes at vs goes = cut_numbers bytes 4 at vs
 values_same false kind bytes at vs goes = ap (λ (ws : List ℕ). with_numbers bytes (element_bytes kind) at ws) (map-id vs)
-
--- and so is a word
-pub words_same : (inward : Bool) (bytes : ByteMap) (at : ℕ) (vs : List ℕ)
-    → with_numbers bytes 4 at (map (copied_value inward Uint32) vs) ≡ with_numbers bytes 4 at vs
-words_same true bytes at vs = cut_numbers bytes 4 at vs
-words_same false bytes at vs = ap (λ (ws : List ℕ). with_numbers bytes 4 at ws) (map-id vs)
 
 -- nor is what numbers mean that are no bools
 pub meant_same : (kind : Kind) (bytes : ByteMap) (at : ℕ) (vs : List ℕ) → is_open MutableArray kind ≡ true

@@ -27,7 +27,7 @@ pub record RoomNumbers (image : Fields) (site : CallSite) : Type 0 where
   pub below : arguments_end image site < 2 ^ 32
 
 -- no more registers are kept than may have to be
-written_few : (words rs : List ℕ) → length (written_of words rs) ≤ length rs
+pub written_few : (words rs : List ℕ) → length (written_of words rs) ≤ length rs
 written_few words [] = omega arith
 written_few words (r ∷ rs) = by (is_written words r) (written_few words rs)
   where

@@ -1,15 +1,19 @@
 -- Where the parts of a function's words stand in code: the instructions before the body, the body, and those behind
 -- it.
 use Rattle.hepurita.specs.Needs.{Needs}
-use Rattle.std.proofs.Common.{◌≡◌, ℕ, suc, ◌+◌, ◌*◌, List, [], ◌∷◌, ◌++◌, length, map, refl, ap, ap₂, ◌∙◌, subst}
-use Rattle.std.proofs.Common.{arith, length-append}
+use Rattle.std.proofs.Common.{◌≡◌, ℕ, suc, ◌+◌, ◌*◌, ◌≤◌, List, [], ◌∷◌, ◌++◌, length, map, Option, Some, None, refl}
+use Rattle.std.proofs.Common.{sym, subst, arith, length-append}
 use Rattle.std.proofs.lemmas.List.{length-map}
 use Rattle.linked_calls.proofs.Below.{body_words, MachineCode, enter_code, Fields, function_words, IsSite, leave_code}
-use Rattle.linked_calls.proofs.Below.{Placed, CallSite, Stand}
+use Rattle.linked_calls.proofs.Below.{AreThere, arguments_code, Instr, Placed, CallSite, result_code, results_code, Stand}
 use Rattle.linked_calls.proofs.Between.{body_at, leave_at}
 use Rattle.linked_calls.specs.Below.{word_of}
+use Rattle.linked_calls.proofs.Nearness.{arguments_short, body_few, is_near_where, leave_short}
 use Rattle.linked_calls.proofs.Pieces.{placed}
+use Rattle.linked_calls.specs.Copies.{CopierStands}
+use Rattle.linked_calls.specs.FunctionCode.{copier_code, copier_end, copier_of, end_code, from_body}
 use Rattle.linked_calls.specs.declared.pace.Pace.{Pace}
+use Rattle.linked_calls.specs.declared.round.Round.{Round}
 
 -- Words, one list after another.
 
@@ -27,50 +31,111 @@ stand_then code p (x ∷ xs) ys h =
 
 -- The function.
 
+-- the code before the body, where it stands
+abbrev pub entering_code : Fields → Needs → Pace → List Instr
+entering_code image needs pace = enter_code image needs pace (from_body image pace)
+
 abbrev enter_words : Fields → Needs → Pace → List ℕ
-enter_words image needs pace = map word_of (enter_code image needs pace)
+enter_words image needs pace = map word_of (entering_code image needs pace)
 
 abbrev leave_words : Fields → Pace → List ℕ
 leave_words image pace = map word_of (leave_code image pace)
 
+abbrev copier_words : Fields → Pace → List ℕ
+copier_words image pace = map word_of (copier_end (copier_of image pace))
+
 words_are : (image : Fields) (needs : Needs) (pace : Pace)
-    → function_words image needs pace ≡ enter_words image needs pace ++ body_words image.words ++ leave_words image pace
+    → function_words image needs pace
+    ≡ enter_words image needs pace ++ body_words image.words ++ leave_words image pace ++ copier_words image pace
 unfolding function_words
 words_are image needs pace = refl
 
--- how many words it has
-pub function_length : (image : Fields) (needs : Needs) (pace : Pace) → length (function_words image needs pace)
-    ≡ length (enter_code image needs pace) + length (body_words image.words) + length (leave_code image pace)
-function_length image needs pace =
-    ap length (words_are image needs pace)
-    ∙ length-append (enter_words image needs pace ++ body_words image.words) (leave_words image pace)
-    ∙ ap₂ (λ a b. a + b) (length-append (enter_words image needs pace) (body_words image.words)
-    ∙ ap (λ a. a + length (body_words image.words)) (length-map (enter_code image needs pace) word_of))
-    (length-map (leave_code image pace) word_of)
-
 module _ (image : Fields) {needs : Needs} {pace : Pace} (code : MachineCode) (site : CallSite) (is : IsSite image needs pace code site) where
-  all_stand : Stand code site.entry (enter_words image needs pace ++ body_words image.words ++ leave_words image pace)
+  all_stand : Stand code site.entry
+      (enter_words image needs pace ++ body_words image.words ++ leave_words image pace ++ copier_words image pace)
   all_stand = subst (λ words. Stand code site.entry words) (words_are image needs pace) is.words
+
+  left_stands : Stand code site.entry (enter_words image needs pace ++ body_words image.words ++ leave_words image pace)
+  left_stands = stand_first code site.entry
+      (enter_words image needs pace ++ body_words image.words ++ leave_words image pace) (copier_words image pace) all_stand
 
   entered_stands : Stand code site.entry (enter_words image needs pace ++ body_words image.words)
   entered_stands = stand_first code site.entry (enter_words image needs pace ++ body_words image.words)
-      (leave_words image pace) all_stand
+      (leave_words image pace) left_stands
 
-  pub enter_placed : Placed code site.entry (enter_code image needs pace)
-  enter_placed = placed code site.entry (enter_code image needs pace)
+  pub enter_placed : Placed code site.entry (entering_code image needs pace)
+  enter_placed = placed code site.entry (entering_code image needs pace)
       (stand_first code site.entry (enter_words image needs pace) (body_words image.words) entered_stands)
 
   pub body_stands : Stand code (body_at image needs pace site) (body_words image.words)
   body_stands =
-      subst (λ n. Stand code (site.entry + 4 * n) (body_words image.words)) (length-map (enter_code image needs pace) word_of)
+      subst (λ n. Stand code (site.entry + 4 * n) (body_words image.words)) (length-map (entering_code image needs pace) word_of)
       (stand_then code site.entry (enter_words image needs pace) (body_words image.words) entered_stands)
+
+  to_leave : site.entry + 4 * length (enter_words image needs pace ++ body_words image.words) ≡ leave_at image needs pace site
+  to_leave =
+      let a = length-append (enter_words image needs pace) (body_words image.words) in
+      let b = length-map (entering_code image needs pace) word_of in
+      omega arith
 
   pub leave_placed : Placed code (leave_at image needs pace site) (leave_code image pace)
   leave_placed =
-      let words = body_words image.words in
-      let a = length-append (enter_words image needs pace) words in
-      let b = length-map (enter_code image needs pace) word_of in
-      let e : site.entry + 4 * length (enter_words image needs pace ++ words) ≡ leave_at image needs pace site = omega arith in
       placed code (leave_at image needs pace site) (leave_code image pace)
-      (subst (λ q. Stand code q (leave_words image pace)) e
-      (stand_then code site.entry (enter_words image needs pace ++ words) (leave_words image pace) all_stand))
+      (subst (λ q. Stand code q (leave_words image pace)) to_leave
+      (stand_then code site.entry (enter_words image needs pace ++ body_words image.words) (leave_words image pace) left_stands))
+
+  to_copier : site.entry + 4 * length (enter_words image needs pace ++ body_words image.words ++ leave_words image pace)
+      ≡ leave_at image needs pace site + 4 * length (leave_code image pace)
+  to_copier =
+      let a = length-append (enter_words image needs pace ++ body_words image.words) (leave_words image pace) in
+      let b = length-map (leave_code image pace) word_of in
+      let c = to_leave in
+      omega arith
+
+  copier_stands : AreThere code (leave_at image needs pace site + 4 * length (leave_code image pace))
+      (copier_end (copier_of image pace))
+  copier_stands =
+      subst (λ q. Stand code q (copier_words image pace)) to_copier
+      (stand_then code site.entry (enter_words image needs pace ++ body_words image.words ++ leave_words image pace)
+      (copier_words image pace) all_stand)
+
+  -- from an address on, so many instructions before the copier
+  copier_behind : (copier : Option Round) → copier_of image pace ≡ copier → (p behind : ℕ)
+      → p + 4 * behind ≡ leave_at image needs pace site + 4 * length (leave_code image pace)
+      → behind ≤ 64 * length image.slots + from_body image pace → CopierStands code p behind copier
+  copier_behind None none p behind there few = tt
+  copier_behind (Some round) has p behind there few =
+      let near = is_near_where image pace round has in
+      let short = leave_short image pace in
+      let words = body_few image.words in (
+        omega arith,
+        subst (λ q. AreThere code q (copier_code round)) (sym there)
+            (subst (λ (copier : Option Round). AreThere code (leave_at image needs pace site + 4 * length (leave_code image pace))
+            (copier_end copier)) has copier_stands),
+      )
+
+  -- before the arguments
+  pub arguments_copier : (p : ℕ)
+      → p + 4 * length (arguments_code image pace needs.spared (from_body image pace) 0 image.slots)
+      ≡ body_at image needs pace site
+      → CopierStands code p
+      (length (arguments_code image pace needs.spared (from_body image pace) 0 image.slots) + from_body image pace)
+      (copier_of image pace)
+  arguments_copier p there =
+      let short = arguments_short image pace needs.spared (from_body image pace) 0 image.slots in
+      copier_behind (copier_of image pace) refl p
+      (length (arguments_code image pace needs.spared (from_body image pace) 0 image.slots) + from_body image pace)
+      (omega arith) (omega arith)
+
+  -- and before the arrays that go back
+  pub results_copier : (p : ℕ)
+      → p + 4 * (length (results_code image pace (length (end_code image pace)) 0 image.slots) + length (end_code image pace))
+      ≡ leave_at image needs pace site + 4 * length (leave_code image pace)
+      → CopierStands code p
+      (length (results_code image pace (length (end_code image pace)) 0 image.slots) + length (end_code image pace))
+      (copier_of image pace)
+  results_copier p there =
+      let results = results_code image pace (length (end_code image pace)) 0 image.slots in
+      let all = length-append (result_code image.returned ++ results) (end_code image pace) in
+      let first = length-append (result_code image.returned) results in
+      copier_behind (copier_of image pace) refl p (length results + length (end_code image pace)) there (omega arith)

@@ -1,10 +1,11 @@
 -- What this crate takes from the specs of the crates below, in one place.
 unfoldable pub use Rattle.rv_code.specs.Words.{word_of}
 pub use Rattle.rv_code.specs.declared.instructions.Instr.{Instr}
-pub use Rattle.rv_code.specs.declared.instructions.Instr.TheVariants.{Branch, Immediate, JumpRegister, Register, Upper}
+pub use Rattle.rv_code.specs.declared.instructions.Instr.TheVariants.{Branch, Immediate, Jump, JumpRegister, Register}
+pub use Rattle.rv_code.specs.declared.instructions.Instr.TheVariants.{Upper}
 pub use Rattle.rv_code.specs.declared.operations.BranchTest.TheVariants.{Beq, Bne}
 pub use Rattle.rv_code.specs.declared.operations.ImmediateOperation.TheVariants.{Addi, Andi}
-pub use Rattle.rv_code.specs.declared.operations.RegisterOperation.TheVariants.{Add, Sub}
+pub use Rattle.rv_code.specs.declared.operations.RegisterOperation.TheVariants.{Add, Or, Sub}
 pub use Rattle.rv_machine.specs.Bytes.{ByteMap}
 unfoldable pub use Rattle.rv_machine.specs.Bytes.{number_at}
 pub use Rattle.rv_machine.specs.Machine.{MachineCode, goes_on, observed, State, Step}

@@ -1,6 +1,6 @@
 -- The linked call: a caller that keeps the calling convention gets what the source means, in an exact number of steps
 -- around those of the body, and its secrets make no difference to what an observer sees.
-use Rattle.std.specs.Prelude.{◌≡◌, ℕ, suc, ◌+◌, ◌-◌, ◌*◌, ◌%◌, ◌<◌, List, length, None}
+use Rattle.std.specs.Prelude.{◌≡◌, ℕ, suc, ◌+◌, ◌*◌, ◌%◌, ◌<◌, List, None}
 use Rattle.language.specs.arguments.Agreement.{Agree}
 use Rattle.language.specs.arguments.PublicResults.{AgreeInPublic}
 use Rattle.linked_calls.specs.Below.{Arg, MachineCode, Fields, goes_on, IsImage, LeadsWithin, moved_to, Observation}
@@ -12,7 +12,7 @@ use Rattle.hepurita.specs.Meant.{Means}
 use Rattle.language.specs.Tree.{ProcedureTree, ProgramTree}
 use Rattle.linked_calls.specs.Called.{IsOfCall, IsLeft}
 use Rattle.linked_calls.specs.Calls.{CallSite, IsSite, IsCalled, arguments_of}
-use Rattle.linked_calls.specs.FunctionCode.{function_words}
+use Rattle.linked_calls.specs.FunctionCode.{before_return}
 use Rattle.linked_calls.specs.Sections.{around_steps}
 use Rattle.linked_calls.specs.declared.pace.Pace.{Pace}
 
@@ -29,7 +29,7 @@ pub record CallReturns (program : ProgramTree) (image : Fields) (needs : Needs) 
   pub body_steps : ℕ
   pub within_steps : body_steps < image.max_steps
   pub counted : suc step_count ≡ around_steps image needs pace site.pointers + body_steps
-  pub at_last : end.pc ≡ site.entry + 4 * (length (function_words image needs pace) - 1)
+  pub at_last : end.pc ≡ site.entry + 4 * before_return image needs pace
   pub left : IsLeft image site s.regs s.bytes results end
   -- a caller of code without compressed instructions stands at a multiple of 4
   pub goes_back : s.regs 1 % 4 ≡ 0 → Step code end (goes_on (observed end None) (moved_to end (s.regs 1)))

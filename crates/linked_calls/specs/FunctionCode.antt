@@ -5,22 +5,22 @@
 -- then those of the caller's s0 to s11 that the body writes, and at its upper end those of a0 to a7 that are needed
 -- behind the body. Arguments that no register holds stand with the caller, from the end of the room on.
 --
--- At a fast pace loops do much in each round, and an array of elements that are smaller than a word is copied by words
--- where its pointer is a multiple of 4, which is tested when the function runs: pointers are public. At a small pace
--- loops do little in each round, and arrays go element by element.
+-- At a fast pace loops do much in each round, and arrays share one loop, the copier, which stands behind the rest of
+-- the function. At a small pace loops do little in each round, and each array has its own.
 use Rattle.std.specs.Prelude.{ℕ, ◌+◌, ◌-◌, ◌*◌, ◌/◌, ◌%◌, ◌^◌, ◌==◌, List, [], ◌∷◌, ◌++◌, length, map}
 use Rattle.std.specs.Prelude.{max, replicate, slice_get, take, unwrap_or}
-use Rattle.std.specs.Prelude.{Bool, true, false, ◌&&◌, nat_le, nat_lt, Option, Some, None, if◌then◌else◌}
+use Rattle.std.specs.Prelude.{Bool, true, false, not, ◌&&◌, ◌||◌, nat_le, nat_lt, Option, Some, None, if◌then◌else◌}
 use Rattle.std.proofs.Common.{zero, suc}
 use Rattle.linked_calls.specs.Below.{Add, Addi, Andi, Beq, Bne, body_words, Boolean, Branch, constant_code, cut_code}
 use Rattle.linked_calls.specs.Below.{element_bytes, Fields, FixedArray, Form, Immediate, Instr, is_not_zero_code}
-use Rattle.linked_calls.specs.Below.{JumpRegister, Kind, load_by, load_code, MutableArray, over, Register, ResultSlot}
+use Rattle.linked_calls.specs.Below.{Jump, JumpRegister, Kind, load_by, load_code, MutableArray, Or, over}
+use Rattle.linked_calls.specs.Below.{Register, ResultSlot}
 use Rattle.linked_calls.specs.Below.{SingleWord, Slot, store_code, Sub, Uint16, Uint32, Uint8, word_of}
 use Rattle.hepurita.specs.Blank.{Blank}
 use Rattle.hepurita.specs.Needs.{Needs}
 use Rattle.linked_calls.specs.Convention.{link_register, stack_register, saved_registers, argument_registers}
 use Rattle.linked_calls.specs.Convention.{result_register, scratch_registers, whole_blocks}
-use Rattle.linked_calls.specs.Paces.{few_elements, may_go_by_words, most_blanks, per_round, run_words}
+use Rattle.linked_calls.specs.Paces.{few_elements, least_for_call, most_blanks, per_round, run_words, times}
 use Rattle.linked_calls.specs.Written.{written_of}
 use Rattle.language.specs.Operators.{width_of}
 use Rattle.rv_code.specs.declared.instructions.Instr.TheVariants.{Load, Store}
@@ -28,6 +28,9 @@ use Rattle.rv_code.specs.declared.operations.LoadOperation.TheVariants.{Lw}
 use Rattle.rv_code.specs.declared.operations.StoreOperation.{StoreOperation}
 use Rattle.rv_code.specs.declared.operations.StoreOperation.TheVariants.{Sb, Sh, Sw}
 use Rattle.linked_calls.specs.declared.pace.Pace.{Pace}
+use Rattle.linked_calls.specs.declared.pace.Pace.TheVariants.{Fast, Small}
+use Rattle.linked_calls.specs.declared.round.Round.{Round}
+use Rattle.linked_calls.specs.declared.round.Round.TheVariants.{One, Two, Four}
 
 -- Sizes.
 
@@ -209,18 +212,21 @@ abbrev pub pointer_in_code : Fields → ℕ → List Instr
 pointer_in_code image i =
     if nat_lt i 8 then Immediate Addi 5 (10 + i) 0 ∷ [] else load_code 5 (stacked_offset image i)
 
--- and behind it
+-- and into x6, behind it
 abbrev pub pointer_out_code : Fields → ℕ → List Instr
-pointer_out_code image i = load_code 5 (argument_offset image i)
+pointer_out_code image i = load_code 6 (argument_offset image i)
 
--- the caller's array from x5 on, by such code, and its slot from x6 on
-abbrev pub places_code : List Instr → Slot → List Instr
-places_code pointer slot = pointer ++ address_code 6 slot.offset
+-- Where elements are read, into x5, and where they are written, into x6: from the caller's array to its slot, and back.
 
--- as many elements more are done as a round copies
-abbrev pub next_code : Pace → Kind → List Instr
-next_code pace kind =
-    added 5 (per_round pace kind * element_bytes kind) ∷ added 6 (per_round pace kind * element_bytes kind) ∷ []
+abbrev pub places_in_code : Fields → ℕ → Slot → List Instr
+places_in_code image i slot = pointer_in_code image i ++ address_code 6 slot.offset
+
+abbrev pub places_out_code : Fields → ℕ → Slot → List Instr
+places_out_code image i slot = address_code 5 slot.offset ++ pointer_out_code image i
+
+-- both go so many bytes on
+abbrev pub next_code : ℕ → List Instr
+next_code bytes = added 5 bytes ∷ added 6 bytes ∷ []
 
 -- a bool element as 0 or 1; numbers have their width
 abbrev pub element_meant_code : Kind → List Instr
@@ -236,19 +242,24 @@ store_by Uint8 = Sb
 store_by Uint16 = Sh
 store_by Uint32 = Sw
 
--- the element at an offset of the caller's array into the slot
+-- what the element at an offset means, where it comes from the caller
 abbrev pub copied_in_code : Kind → ℕ → List Instr
 copied_in_code kind offset =
     Load (load_by kind) 28 5 offset ∷ element_meant_code kind ++ Store (store_by kind) 28 6 offset ∷ []
 
--- and that of the slot into the caller's array
+-- and the element as it is
 abbrev pub copied_out_code : Kind → ℕ → List Instr
-copied_out_code kind offset = Load (load_by kind) 28 6 offset ∷ Store (store_by kind) 28 5 offset ∷ []
+copied_out_code kind offset = Load (load_by kind) 28 5 offset ∷ Store (store_by kind) 28 6 offset ∷ []
 
 -- so many elements of so many bytes one after another, the first at an offset
 abbrev pub elements_code : (ℕ → List Instr) → ℕ → ℕ → ℕ → List Instr
 elements_code code bytes offset zero = []
 elements_code code bytes offset (suc count) = code offset ++ elements_code code bytes (offset + bytes) count
+
+-- so many elements and no others in each round, as long as x5 is not where x7 is
+abbrev pub loop_code : (ℕ → List Instr) → Kind → ℕ → List Instr
+loop_code code kind count =
+    until_equal 5 7 (elements_code code (element_bytes kind) 0 count ++ next_code (count * element_bytes kind))
 
 -- so many bytes behind x5 into x7, by a number of its own
 abbrev pub far_code : ℕ → List Instr
@@ -263,8 +274,7 @@ abbrev pub rounds_code : Pace → (ℕ → List Instr) → Kind → ℕ → List
 rounds_code pace code kind count =
     let bytes = element_bytes kind in
     let round = per_round pace kind in
-    bound_code (bytes * (round * (count / round)))
-    ++ until_equal 5 7 (elements_code code bytes 0 round ++ next_code pace kind)
+    bound_code (bytes * (round * (count / round))) ++ loop_code code kind round
     ++ elements_code code bytes 0 (count % round)
 
 -- so many elements: by straight code if they are few
@@ -273,57 +283,122 @@ copied_code pace code kind count =
     if nat_lt count (few_elements pace kind) then elements_code code (element_bytes kind) 0 count
     else rounds_code pace code kind count
 
--- how many of them lie behind where x5 and x6 are then
-abbrev pub passed_count : Pace → Kind → ℕ → ℕ
-passed_count pace kind count = if nat_lt count (few_elements pace kind) then count else count % per_round pace kind
+-- The copier, which all arrays of a function share: from x5 on to where x6 is, up to x7, and back by x30. It goes by
+-- words where x5 and x6 are multiples of 4, and else by bytes.
+
+-- one code where x5 or x6 is no multiple of 4, and another where both are
+abbrev pub by_alignment_code : List Instr → List Instr → List Instr
+by_alignment_code bytes words =
+    Register Or 28 5 6 ∷ Immediate Andi 28 28 3 ∷ Branch Beq 28 0 (2 * length bytes + 4)
+    ∷ bytes ++ over (length words) ∷ words
+
+abbrev pub copies_code : Round → List Instr
+copies_code round =
+    by_alignment_code (loop_code (copied_out_code Uint8) Uint8 1)
+    (loop_code (copied_out_code Uint32) Uint32 (times round))
+
+abbrev pub copier_code : Round → List Instr
+copier_code round = copies_code round ++ JumpRegister 0 30 0 ∷ []
 
 -- how many elements a word has
 abbrev pub per_word : Kind → ℕ
 per_word kind = 4 / element_bytes kind
 
--- so many elements word by word, and those that are no whole word
-abbrev pub by_words_code : Pace → (Kind → ℕ → List Instr) → Kind → ℕ → List Instr
-by_words_code pace code kind count =
-    let words = count / per_word kind in
-    copied_code pace (code Uint32) Uint32 words
-    ++ elements_code (code kind) (element_bytes kind) (4 * passed_count pace Uint32 words) (count % per_word kind)
+-- and as many words as a round copies
+abbrev pub in_round : Round → Kind → ℕ
+in_round round kind = times round * per_word kind
 
--- one code where the pointer in x5 is no multiple of 4, and another where it is
-abbrev pub by_alignment_code : List Instr → List Instr → List Instr
-by_alignment_code elements words =
-    Immediate Andi 28 5 3 ∷ Branch Beq 28 0 (2 * length elements + 4) ∷ elements ++ over (length words) ∷ words
+-- so many elements are worth a call of it
+abbrev pub is_worth_a_call : Kind → ℕ → Bool
+is_worth_a_call kind count = nat_le (least_for_call kind) count
 
--- elements that are smaller than a word go by words; but a bool that is passed means whether it is not 0, so it goes
--- alone
-abbrev pub goes_in_by_words : Kind → Bool
-goes_in_by_words Boolean = false
-goes_in_by_words Uint8 = true
-goes_in_by_words Uint16 = true
-goes_in_by_words Uint32 = false
+-- a bool that is passed means whether it is not 0, so it goes alone
+abbrev pub goes_in_as_it_is : Kind → Bool
+goes_in_as_it_is Boolean = false
+goes_in_as_it_is Uint8 = true
+goes_in_as_it_is Uint16 = true
+goes_in_as_it_is Uint32 = true
 
-abbrev pub goes_out_by_words : Kind → Bool
-goes_out_by_words Boolean = true
-goes_out_by_words Uint8 = true
-goes_out_by_words Uint16 = true
-goes_out_by_words Uint32 = false
+-- whether an array goes as it is, one way or the other
+abbrev pub goes_as_it_is : Form → Kind → Bool
+goes_as_it_is SingleWord kind = false
+goes_as_it_is FixedArray kind = goes_in_as_it_is kind
+goes_as_it_is MutableArray kind = true
 
--- all elements of an array: element by element, or as the pointer is where they go by words and are not too few
-abbrev pub array_code : Pace → (Kind → ℕ → List Instr) → Bool → Kind → ℕ → List Instr
-array_code pace code by_words kind count =
-    if by_words && may_go_by_words pace count
-    then by_alignment_code (copied_code pace (code kind) kind count) (by_words_code pace code kind count)
-    else copied_code pace (code kind) kind count
+-- whether the array of a slot is worth a call, and whether one of them is
+
+abbrev pub is_worth : Slot → Bool
+is_worth slot = goes_as_it_is slot.param.form slot.param.kind && is_worth_a_call slot.param.kind slot.param.length
+
+abbrev pub is_any_worth : List Slot → Bool
+is_any_worth [] = false
+is_any_worth (slot ∷ slots) = is_worth slot || is_any_worth slots
+
+-- whether its words are a whole number of rounds of so many; of an array of words those beside the rounds are few
+abbrev pub divides : ℕ → Kind → ℕ → Bool
+divides round Boolean count = count / per_word Boolean % round == 0
+divides round Uint8 count = count / per_word Uint8 % round == 0
+divides round Uint16 count = count / per_word Uint16 % round == 0
+divides round Uint32 count = true
+
+-- and so of all that are worth a call
+abbrev pub divides_all : ℕ → List Slot → Bool
+divides_all round [] = true
+divides_all round (slot ∷ slots) =
+    (not (is_worth slot) || divides round slot.param.kind slot.param.length) && divides_all round slots
+
+abbrev pub round_of : List Slot → Round
+round_of slots = if divides_all 4 slots then Four else if divides_all 2 slots then Two else One
+
+-- whether each jump of a function reaches as far as its end
+abbrev pub is_near : Fields → Bool
+is_near image = nat_lt (length image.words + 128 * length image.slots) (2 ^ 16)
+
+-- the copier of a function that has one, by how many words a round of it copies
+abbrev pub copier_of : Fields → Pace → Option Round
+copier_of image Fast = if is_near image && is_any_worth image.slots then Some (round_of image.slots) else None
+copier_of image Small = None
+
+abbrev pub copier_end : Option Round → List Instr
+copier_end None = []
+copier_end (Some round) = copier_code round
+
+-- a call over so many instructions, as far as a jump reaches
+abbrev pub call_code : ℕ → Instr
+call_code count = Jump 30 ((2 * count + 2) % 2 ^ 20)
+
+-- so many elements by the copier, which stands so many instructions behind, and those that are no whole round
+abbrev pub called_code : Round → ℕ → Kind → ℕ → List Instr
+called_code round behind kind count =
+    let bytes = element_bytes kind in
+    let rest = elements_code (copied_out_code kind) bytes 0 (count % in_round round kind) in
+    bound_code (bytes * (in_round round kind * (count / in_round round kind)))
+    ++ call_code (length rest + behind) ∷ rest
+
+-- whether so many elements go by a copier: as they are, and at least a round of them
+abbrev pub goes_by_call : Round → Bool → Kind → ℕ → Bool
+goes_by_call round goes kind count =
+    goes && is_worth_a_call kind count && nat_le (in_round round kind) count
+
+-- all elements of an array, by the copier of the function or by code of their own
+abbrev pub array_code : Pace → Option Round → ℕ → (ℕ → List Instr) → Bool → Kind → ℕ → List Instr
+array_code pace None behind code goes kind count = copied_code pace code kind count
+array_code pace (Some round) behind code goes kind count =
+    if goes_by_call round goes kind count then called_code round behind kind count else copied_code pace code kind count
 
 -- an array that the argument points to into its slot
-abbrev pub copy_in_code : Fields → Pace → ℕ → Slot → List Instr
-copy_in_code image pace i slot =
-    places_code (pointer_in_code image i) slot
-    ++ array_code pace copied_in_code (goes_in_by_words slot.param.kind) slot.param.kind slot.param.length
+abbrev pub copy_in_code : Fields → Pace → ℕ → ℕ → Slot → List Instr
+copy_in_code image pace behind i slot =
+    let kind = slot.param.kind in
+    let goes = goes_in_as_it_is kind in
+    places_in_code image i slot
+    ++ array_code pace (copier_of image pace) behind (copied_in_code kind) goes kind slot.param.length
 
-abbrev pub argument_code : Fields → Pace → ℕ → Slot → Form → List Instr
-argument_code image pace i slot SingleWord = word_code image i slot
-argument_code image pace i slot FixedArray = copy_in_code image pace i slot
-argument_code image pace i slot MutableArray = copy_in_code image pace i slot
+-- an argument into its slot, so many instructions before the copier
+abbrev pub argument_code : Fields → Pace → ℕ → ℕ → Slot → Form → List Instr
+argument_code image pace behind i slot SingleWord = word_code image i slot
+argument_code image pace behind i slot FixedArray = copy_in_code image pace behind i slot
+argument_code image pace behind i slot MutableArray = copy_in_code image pace behind i slot
 
 -- any numbers of the kind may stand in the slot of an array of numbers that may be changed
 abbrev pub is_open : Form → Kind → Bool
@@ -339,20 +414,22 @@ abbrev pub is_skipped : List Bool → ℕ → Slot → Bool
 is_skipped spared i slot = unwrap_or (slice_get spared i) false && is_open slot.param.form slot.param.kind
 
 -- an argument into its slot, where it has to stand there
-abbrev pub needed_code : Fields → Pace → List Bool → ℕ → Slot → List Instr
-needed_code image pace spared i slot =
-    if is_skipped spared i slot then [] else argument_code image pace i slot slot.param.form
+abbrev pub needed_code : Fields → Pace → List Bool → ℕ → ℕ → Slot → List Instr
+needed_code image pace spared behind i slot =
+    if is_skipped spared i slot then [] else argument_code image pace behind i slot slot.param.form
 
 -- all arguments from the i-th on
-abbrev pub arguments_code : Fields → Pace → List Bool → ℕ → List Slot → List Instr
-arguments_code image pace spared i [] = []
-arguments_code image pace spared i (slot ∷ slots) =
-    needed_code image pace spared i slot ++ arguments_code image pace spared (i + 1) slots
+abbrev pub arguments_code : Fields → Pace → List Bool → ℕ → ℕ → List Slot → List Instr
+arguments_code image pace spared behind i [] = []
+arguments_code image pace spared behind i (slot ∷ slots) =
+    let rest = arguments_code image pace spared behind (i + 1) slots in
+    needed_code image pace spared (length rest + behind) i slot ++ rest
 
-abbrev pub enter_code : Fields → Needs → Pace → List Instr
-enter_code image needs pace =
+-- before the body, and so many instructions before the copier
+abbrev pub enter_code : Fields → Needs → Pace → ℕ → List Instr
+enter_code image needs pace behind =
     entry_code image ++ frame_code pace (frame_room image) needs.blank
-    ++ arguments_code image pace needs.spared 0 image.slots
+    ++ arguments_code image pace needs.spared behind 0 image.slots
 
 -- The way back.
 
@@ -362,18 +439,20 @@ result_code None = Immediate Addi result_register 0 0 ∷ []
 result_code (Some slot) = load_code result_register slot.offset
 
 -- an array from its slot to where the argument points
-abbrev pub copy_out_code : Fields → Pace → ℕ → Slot → Form → List Instr
-copy_out_code image pace i slot SingleWord = []
-copy_out_code image pace i slot FixedArray = []
-copy_out_code image pace i slot MutableArray =
-    places_code (pointer_out_code image i) slot
-    ++ array_code pace copied_out_code (goes_out_by_words slot.param.kind) slot.param.kind slot.param.length
+abbrev pub copy_out_code : Fields → Pace → ℕ → ℕ → Slot → Form → List Instr
+copy_out_code image pace behind i slot SingleWord = []
+copy_out_code image pace behind i slot FixedArray = []
+copy_out_code image pace behind i slot MutableArray =
+    let kind = slot.param.kind in
+    places_out_code image i slot
+    ++ array_code pace (copier_of image pace) behind (copied_out_code kind) true kind slot.param.length
 
 -- all arrays that may be changed, from the i-th argument on
-abbrev pub results_code : Fields → Pace → ℕ → List Slot → List Instr
-results_code image pace i [] = []
-results_code image pace i (slot ∷ slots) =
-    copy_out_code image pace i slot slot.param.form ++ results_code image pace (i + 1) slots
+abbrev pub results_code : Fields → Pace → ℕ → ℕ → List Slot → List Instr
+results_code image pace behind i [] = []
+results_code image pace behind i (slot ∷ slots) =
+    let rest = results_code image pace behind (i + 1) slots in
+    copy_out_code image pace (length rest + behind) i slot slot.param.form ++ rest
 
 -- the caller's registers that are kept, and its x2 in x5
 abbrev pub restore_code : Fields → List Instr
@@ -388,13 +467,30 @@ wipe_code pace room = runs_code pace up_code room
 abbrev pub clear_registers_code : List ℕ → List Instr
 clear_registers_code rs = map (λ r. Immediate Addi r 0 0) rs
 
+-- behind the arrays
+abbrev pub end_code : Fields → Pace → List Instr
+end_code image pace =
+    restore_code image ++ wipe_code pace (room_of image) ++ clear_registers_code scratch_registers
+    ++ JumpRegister 0 link_register 0 ∷ []
+
+-- behind the body, and up to the copier
 abbrev pub leave_code : Fields → Pace → List Instr
 leave_code image pace =
-    result_code image.returned ++ results_code image pace 0 image.slots ++ restore_code image
-    ++ wipe_code pace (room_of image) ++ clear_registers_code scratch_registers ++ JumpRegister 0 link_register 0 ∷ []
+    result_code image.returned ++ results_code image pace (length (end_code image pace)) 0 image.slots
+    ++ end_code image pace
 
 -- The function.
 
+-- how many words there are from the body on up to the copier
+abbrev pub from_body : Fields → Pace → ℕ
+from_body image pace = length (body_words image.words) + length (leave_code image pace)
+
+-- and how many before the jump back
+abbrev pub before_return : Fields → Needs → Pace → ℕ
+before_return image needs pace =
+    length (enter_code image needs pace (from_body image pace)) + from_body image pace - 1
+
 unfoldable pub function_words : Fields → Needs → Pace → List ℕ
 function_words image needs pace =
-    map word_of (enter_code image needs pace) ++ body_words image.words ++ map word_of (leave_code image pace)
+    map word_of (enter_code image needs pace (from_body image pace)) ++ body_words image.words
+    ++ map word_of (leave_code image pace) ++ map word_of (copier_end (copier_of image pace))

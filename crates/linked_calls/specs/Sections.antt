@@ -1,30 +1,30 @@
 -- The code of a function in sections, each with one purpose: what its text says of them, and how many steps they
 -- make.
-use Rattle.std.specs.Prelude.{ℕ, ◌+◌, ◌*◌, ◌/◌, ◌%◌, ◌==◌, Bool, ◌&&◌, nat_lt, List, [], ◌∷◌, ◌++◌}
-use Rattle.std.specs.Prelude.{length, map, sum, Some, None, if◌then◌else◌}
-use Rattle.std.specs.List.{flat_map}
+use Rattle.std.specs.Prelude.{◌≡◌, ℕ, ◌+◌, ◌*◌, ◌/◌, ◌%◌, ◌^◌, ◌==◌, Bool, true, nat_lt, List, [], ◌∷◌, ◌++◌}
+use Rattle.std.specs.Prelude.{length, map, sum, Option, Some, None, if◌then◌else◌}
 use Rattle.linked_calls.specs.Below.{constant_code, element_bytes, Fields, FixedArray, Form, Instr, JumpRegister}
-use Rattle.linked_calls.specs.Below.{Kind, MutableArray, Register, SingleWord, Slot, Sub, Uint32}
+use Rattle.linked_calls.specs.Below.{Kind, MutableArray, Register, SingleWord, Slot, Sub, Uint32, Uint8}
 use Rattle.linked_calls.specs.Convention.{link_register, stack_register}
 use Rattle.linked_calls.specs.Convention.{scratch_registers}
 use Rattle.linked_calls.specs.FunctionCode.{above_frame, bound_code, frame_room, room_of, stores_code, loads_code}
-use Rattle.linked_calls.specs.Paces.{few_elements, may_go_by_words, per_round, run_words}
+use Rattle.linked_calls.specs.Paces.{few_elements, per_round, run_words, times}
 use Rattle.hepurita.specs.Blank.{Blank}
 use Rattle.hepurita.specs.Needs.{Needs}
 use Rattle.linked_calls.specs.FunctionCode.{above_code, added, address_code, are_few, argument_code, blank_code}
-use Rattle.linked_calls.specs.FunctionCode.{copied_in_code, first_argument, lowered_code}
-use Rattle.linked_calls.specs.FunctionCode.{copied_out_code, down_code, elements_code, goes_in_by_words}
-use Rattle.linked_calls.specs.FunctionCode.{goes_out_by_words, is_skipped, kept_of, needed_of, passed_count}
-use Rattle.linked_calls.specs.FunctionCode.{places_code, pointer_in_code, pointer_out_code, result_code, copy_out_code}
-use Rattle.linked_calls.specs.FunctionCode.{clear_registers_code, per_word, rest_words, run_count, runs_code}
-use Rattle.linked_calls.specs.FunctionCode.{wipe_code}
+use Rattle.linked_calls.specs.FunctionCode.{clear_registers_code, copied_in_code, copied_out_code, copier_code}
+use Rattle.linked_calls.specs.FunctionCode.{copier_of, copy_out_code, down_code, elements_code, first_argument}
+use Rattle.linked_calls.specs.FunctionCode.{goes_by_call, goes_in_as_it_is, in_round, is_skipped, kept_of}
+use Rattle.linked_calls.specs.FunctionCode.{lowered_code, needed_of, places_in_code, places_out_code, rest_words}
+use Rattle.linked_calls.specs.FunctionCode.{result_code, run_count, runs_code, wipe_code, word_code}
 use Rattle.linked_calls.specs.declared.pace.Pace.{Pace}
+use Rattle.linked_calls.specs.declared.round.Round.{Round}
 use Rattle.linked_calls.specs.declared.section.Section.{Section}
 use Rattle.linked_calls.specs.declared.section.Section.TheVariants.{RoomAboveFrame, SavedRegisters, ArgumentRegisters}
 use Rattle.linked_calls.specs.declared.section.Section.TheVariants.{FrameBase, ClearedFrame, LoweredStack, BlankWord}
 use Rattle.linked_calls.specs.declared.section.Section.TheVariants.{ArgumentIn, ResultOut}
 use Rattle.linked_calls.specs.declared.section.Section.TheVariants.{ArrayOut, FrameTop, RestoredRegisters}
-use Rattle.linked_calls.specs.declared.section.Section.TheVariants.{CallersStack, WipedRoom, ClearedRegisters, Return}
+use Rattle.linked_calls.specs.declared.section.Section.TheVariants.{CallersStack, WipedRoom, ClearedRegisters, Copier}
+use Rattle.linked_calls.specs.declared.section.Section.TheVariants.{Return}
 
 -- the sections of a frame that is zeroed whole, where it has room
 abbrev pub zeroed_sections : ℕ → List Section
@@ -72,29 +72,55 @@ leave_sections image =
     ResultOut ∷ array_sections 0 image.slots
     ++ FrameTop ∷ RestoredRegisters ∷ CallersStack ∷ WipedRoom ∷ ClearedRegisters ∷ Return ∷ []
 
-abbrev pub section_code : Fields → Pace → Section → List Instr
-section_code image pace RoomAboveFrame = above_code (above_frame image)
-section_code image pace SavedRegisters = stores_code stack_register 0 (kept_of image)
-section_code image pace ArgumentRegisters = stores_code stack_register (first_argument image) (needed_of image)
-section_code image pace FrameBase = constant_code 5 (frame_room image) ++ Register Sub 5 stack_register 5 ∷ []
-section_code image pace ClearedFrame = runs_code pace down_code (frame_room image)
-section_code image pace LoweredStack = lowered_code (frame_room image)
-section_code image pace (BlankWord offset) = blank_code offset
-section_code image pace (ArgumentIn i slot) = argument_code image pace i slot slot.param.form
-section_code image pace ResultOut = result_code image.returned
-section_code image pace (ArrayOut i slot) = copy_out_code image pace i slot slot.param.form
-section_code image pace FrameTop = address_code 5 (frame_room image)
-section_code image pace RestoredRegisters = loads_code 5 0 (kept_of image)
-section_code image pace CallersStack = added 5 (above_frame image) ∷ []
-section_code image pace WipedRoom = wipe_code pace (room_of image)
-section_code image pace ClearedRegisters = clear_registers_code scratch_registers
-section_code image pace Return = JumpRegister 0 link_register 0 ∷ []
+-- behind all others, where the function has a copier
+abbrev pub copier_sections : Option Round → List Section
+copier_sections None = []
+copier_sections (Some round) = Copier round ∷ []
 
-abbrev pub code_of : Fields → Pace → List Section → List Instr
-code_of image pace sections = flat_map (section_code image pace) sections
+-- of a section that stands so many instructions before the copier
+abbrev pub section_code : Fields → Pace → ℕ → Section → List Instr
+section_code image pace behind RoomAboveFrame = above_code (above_frame image)
+section_code image pace behind SavedRegisters = stores_code stack_register 0 (kept_of image)
+section_code image pace behind ArgumentRegisters = stores_code stack_register (first_argument image) (needed_of image)
+section_code image pace behind FrameBase = constant_code 5 (frame_room image) ++ Register Sub 5 stack_register 5 ∷ []
+section_code image pace behind ClearedFrame = runs_code pace down_code (frame_room image)
+section_code image pace behind LoweredStack = lowered_code (frame_room image)
+section_code image pace behind (BlankWord offset) = blank_code offset
+section_code image pace behind (ArgumentIn i slot) = argument_code image pace behind i slot slot.param.form
+section_code image pace behind ResultOut = result_code image.returned
+section_code image pace behind (ArrayOut i slot) = copy_out_code image pace behind i slot slot.param.form
+section_code image pace behind FrameTop = address_code 5 (frame_room image)
+section_code image pace behind RestoredRegisters = loads_code 5 0 (kept_of image)
+section_code image pace behind CallersStack = added 5 (above_frame image) ∷ []
+section_code image pace behind WipedRoom = wipe_code pace (room_of image)
+section_code image pace behind ClearedRegisters = clear_registers_code scratch_registers
+section_code image pace behind Return = JumpRegister 0 link_register 0 ∷ []
+section_code image pace behind (Copier round) = copier_code round
 
--- Steps. A loop makes its steps once for each run of words, or for each round of elements. Of an array that is copied
--- as its pointer is, they hang on whether that is a multiple of 4: `pointers` is where each argument points.
+-- of sections of which the last stands so many instructions before the copier
+abbrev pub code_of : Fields → Pace → ℕ → List Section → List Instr
+code_of image pace behind [] = []
+code_of image pace behind (section ∷ sections) =
+    let rest = code_of image pace behind sections in
+    section_code image pace (length rest + behind) section ++ rest
+
+-- Of where the copier stands the instructions of a section hang on no more than addresses do, and how many they are
+-- does not hang on it.
+pub record IsCodePlaced (image : Fields) (pace : Pace) (m n : ℕ) : Type 0 where
+  pub same : m % 2 ^ 32 ≡ n % 2 ^ 32 → (section : Section)
+      → section_code image pace m section ≡ section_code image pace n section
+  pub all_same : m % 2 ^ 32 ≡ n % 2 ^ 32 → (sections : List Section)
+      → code_of image pace m sections ≡ code_of image pace n sections
+  pub count : (section : Section)
+      → length (section_code image pace m section) ≡ length (section_code image pace n section)
+  pub all_count : (sections : List Section)
+      → length (code_of image pace m sections) ≡ length (code_of image pace n sections)
+
+abbrev pub CodeIsPlaced : Type 0
+CodeIsPlaced = (image : Fields) (pace : Pace) (m n : ℕ) → IsCodePlaced image pace m n
+
+-- Steps. A loop makes its steps once for each run of words, or for each round of elements. Those of the copier hang on
+-- whether the array's pointer is a multiple of 4: `pointers` is where each argument points.
 
 -- so many instructions, and one that moves x2
 abbrev pub rest_steps : ℕ → ℕ
@@ -105,12 +131,15 @@ abbrev pub runs_steps : Pace → ℕ → ℕ
 runs_steps pace room = rest_steps (rest_words pace room) + (run_words pace + 2) * run_count pace room
 
 -- the elements, x5 and x6 moved and the branch in each round, and the elements that are left
+-- so many rounds of a loop
+abbrev pub loop_steps : (ℕ → List Instr) → Kind → ℕ → ℕ → ℕ
+loop_steps code kind count rounds = (length (elements_code code (element_bytes kind) 0 count) + 3) * rounds
+
 abbrev pub rounds_steps : Pace → (ℕ → List Instr) → Kind → ℕ → ℕ
 rounds_steps pace code kind count =
     let bytes = element_bytes kind in
     let round = per_round pace kind in
-    length (bound_code (bytes * (round * (count / round))))
-    + (length (elements_code code bytes 0 round) + 3) * (count / round)
+    length (bound_code (bytes * (round * (count / round)))) + loop_steps code kind round (count / round)
     + length (elements_code code bytes 0 (count % round))
 
 abbrev pub copied_steps : Pace → (ℕ → List Instr) → Kind → ℕ → ℕ
@@ -118,44 +147,50 @@ copied_steps pace code kind count =
     if nat_lt count (few_elements pace kind) then length (elements_code code (element_bytes kind) 0 count)
     else rounds_steps pace code kind count
 
-abbrev pub by_words_steps : Pace → (Kind → ℕ → List Instr) → Kind → ℕ → ℕ
-by_words_steps pace code kind count =
-    let words = count / per_word kind in
-    copied_steps pace (code Uint32) Uint32 words
-    + length
-    (elements_code (code kind) (element_bytes kind) (4 * passed_count pace Uint32 words) (count % per_word kind))
+-- the copier's test and so many rounds of words; or the bytes, and the jump over the words
+abbrev pub copier_steps : Round → ℕ → ℕ → ℕ
+copier_steps round rounds pointer =
+    3 + (if pointer % 4 == 0 then loop_steps (copied_out_code Uint32) Uint32 (times round) rounds
+    else loop_steps (copied_out_code Uint8) Uint8 1 (4 * (times round * rounds)) + 1)
 
--- the test, and the words; or the elements, and the jump over the words
-abbrev pub by_alignment_steps : Pace → (Kind → ℕ → List Instr) → Kind → ℕ → ℕ → ℕ
-by_alignment_steps pace code kind count pointer =
-    2 + (if pointer % 4 == 0 then by_words_steps pace code kind count else copied_steps pace (code kind) kind count + 1)
+-- the call, the copier and the jump back, and the elements that are no whole round
+abbrev pub called_steps : Round → Kind → ℕ → ℕ → ℕ
+called_steps round kind count pointer =
+    let bytes = element_bytes kind in
+    length (bound_code (bytes * (in_round round kind * (count / in_round round kind))))
+    + (1 + (copier_steps round (count / in_round round kind) pointer + 1))
+    + length (elements_code (copied_out_code kind) bytes 0 (count % in_round round kind))
 
-abbrev pub array_steps : Pace → (Kind → ℕ → List Instr) → Bool → Kind → ℕ → ℕ → ℕ
-array_steps pace code by_words kind count pointer =
-    if by_words && may_go_by_words pace count then by_alignment_steps pace code kind count pointer
-    else copied_steps pace (code kind) kind count
+abbrev pub array_steps : Pace → Option Round → (ℕ → List Instr) → Bool → Kind → ℕ → ℕ → ℕ
+array_steps pace None code goes kind count pointer = copied_steps pace code kind count
+array_steps pace (Some round) code goes kind count pointer =
+    if goes_by_call round goes kind count then called_steps round kind count pointer
+    else copied_steps pace code kind count
 
 abbrev pub taken_steps : Fields → Pace → ℕ → Slot → ℕ → ℕ
 taken_steps image pace i slot pointer =
-    length (places_code (pointer_in_code image i) slot)
-    + array_steps pace copied_in_code (goes_in_by_words slot.param.kind) slot.param.kind slot.param.length pointer
+    let kind = slot.param.kind in
+    let goes = goes_in_as_it_is kind in
+    length (places_in_code image i slot)
+    + array_steps pace (copier_of image pace) (copied_in_code kind) goes kind slot.param.length pointer
 
 abbrev pub argument_steps : Fields → Pace → (ℕ → ℕ) → ℕ → Slot → Form → ℕ
-argument_steps image pace pointers i slot SingleWord = length (argument_code image pace i slot SingleWord)
+argument_steps image pace pointers i slot SingleWord = length (word_code image i slot)
 argument_steps image pace pointers i slot FixedArray = taken_steps image pace i slot (pointers i)
 argument_steps image pace pointers i slot MutableArray = taken_steps image pace i slot (pointers i)
 
 abbrev pub handed_steps : Fields → Pace → ℕ → Slot → ℕ → ℕ
 handed_steps image pace i slot pointer =
-    length (places_code (pointer_out_code image i) slot)
-    + array_steps pace copied_out_code (goes_out_by_words slot.param.kind) slot.param.kind slot.param.length pointer
+    let kind = slot.param.kind in
+    length (places_out_code image i slot)
+    + array_steps pace (copier_of image pace) (copied_out_code kind) true kind slot.param.length pointer
 
 abbrev pub section_steps : Fields → Pace → (ℕ → ℕ) → Section → ℕ
 section_steps image pace pointers ClearedFrame = runs_steps pace (frame_room image)
 section_steps image pace pointers (ArgumentIn i slot) = argument_steps image pace pointers i slot slot.param.form
 section_steps image pace pointers (ArrayOut i slot) = handed_steps image pace i slot (pointers i)
 section_steps image pace pointers WipedRoom = runs_steps pace (room_of image)
-section_steps image pace pointers section = length (section_code image pace section)
+section_steps image pace pointers section = length (section_code image pace 0 section)
 
 -- of all that stands around the body
 abbrev pub around_steps : Fields → Needs → Pace → (ℕ → ℕ) → ℕ

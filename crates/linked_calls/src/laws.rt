@@ -1,13 +1,13 @@
 // What a function's code does, and what its pieces do, wherever they stand. These hold of the definitions alone.
 
-ghost use Rattle.std.specs.Prelude.{◌≡◌, ◌++◌, map};
+ghost use Rattle.std.specs.Prelude.{◌≡◌, ◌+◌, ◌++◌, length, map};
 ghost use Rattle.linked_calls.specs.Below.{body_words, Fields, word_of};
 ghost use Rattle.hepurita.specs.Needs.{Needs};
 ghost use Rattle.linked_calls.specs.Callable.{CallsAreLinked};
 ghost use Rattle.linked_calls.specs.Cleared.{RegistersAreCleared};
-ghost use Rattle.linked_calls.specs.Copies.{ArrayIsTaken, ArrayIsHandedBack, CopiesAreShort};
-ghost use Rattle.linked_calls.specs.FunctionCode.{function_words};
-ghost use Rattle.linked_calls.specs.Sections.{code_of, enter_sections, leave_sections};
+ghost use Rattle.linked_calls.specs.Copies.{ArrayIsTaken, ArrayIsHandedBack, CopierCopies, CopiesAreShort};
+ghost use Rattle.linked_calls.specs.FunctionCode.{copier_of, function_words};
+ghost use Rattle.linked_calls.specs.Sections.{code_of, CodeIsPlaced, copier_sections, enter_sections, leave_sections};
 ghost use Rattle.linked_calls.specs.Words.{ResultIsHandedBack, WordIsTaken};
 ghost use Rattle.linked_calls.specs.Zeros.{FrameIsZeroed, RoomIsWiped};
 ghost use Rattle.linked_calls.specs.declared.pace.Pace.{Pace};
@@ -23,13 +23,23 @@ pub fn calls_are_linked()
     ensures { CallsAreLinked }
 {}
 
-/// The words of the sections' instructions, with the body's between them, are those of the function.
+/// The words of the sections' instructions, with the body's between them and the copier's behind them, are those of the
+/// function.
 pub fn sections_are_the_function()
     ensures { (image : Fields) (needs : Needs) (pace : Pace)
-        → map word_of (code_of image pace (enter_sections image needs pace))
+        → map word_of (code_of image pace
+        (length (body_words image.words) + length (code_of image pace 0 (leave_sections image)))
+        (enter_sections image needs pace))
         ++ body_words image.words
-        ++ map word_of (code_of image pace (leave_sections image))
+        ++ map word_of (code_of image pace 0 (leave_sections image))
+        ++ map word_of (code_of image pace 0 (copier_sections (copier_of image pace)))
         ≡ function_words image needs pace }
+{}
+
+/// How many instructions sections have does not hang on where the copier stands, and they hang on no more of it than
+/// addresses do.
+pub fn code_is_placed()
+    ensures { CodeIsPlaced }
 {}
 
 /// The code that zeroes a frame whole before the body makes an exact number of steps, stores in the frame alone, never
@@ -56,7 +66,14 @@ pub fn array_is_handed_back()
     ensures { ArrayIsHandedBack }
 {}
 
-/// The code that copies elements, one by one or by words, has at most 64 instructions, however many they are.
+/// The copier, up to its jump back, copies so many rounds of bytes from where x5 is to where x6 is, by words where both
+/// are multiples of 4. What it shows is one list, and its number of steps one number, which round and pointer decide.
+pub fn copier_copies()
+    ensures { CopierCopies }
+{}
+
+/// The code that copies elements, by a loop of its own or by a call, has at most 64 instructions, however many they
+/// are.
 pub fn copies_are_short()
     ensures { CopiesAreShort }
 {}

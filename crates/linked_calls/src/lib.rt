@@ -4,12 +4,14 @@
 
 mod laws;
 mod pace;
+mod round;
 mod section;
 
 pub use laws::{
-    array_is_handed_back, array_is_taken, calls_are_linked, copies_are_short, frame_is_zeroed,
-    registers_are_cleared, result_is_handed_back, room_is_wiped, sections_are_the_function,
-    word_is_taken,
+    array_is_handed_back, array_is_taken, calls_are_linked, code_is_placed, copier_copies,
+    copies_are_short, frame_is_zeroed, registers_are_cleared, result_is_handed_back, room_is_wiped,
+    sections_are_the_function, word_is_taken,
 };
 pub use pace::Pace;
+pub use round::Round;
 pub use section::Section;

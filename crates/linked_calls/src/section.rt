@@ -1,5 +1,6 @@
 // What the code of a function is made of.
 
+use crate::Round;
 use codegen::image_fields::Slot;
 
 /// A part of a function's code, with one purpose.
@@ -37,4 +38,6 @@ pub enum Section {
     ClearedRegisters,
     /// Back to the caller.
     Return,
+    /// From x5 on to where x6 is, up to x7, so many words a round, and back by x30.
+    Copier(Round),
 }

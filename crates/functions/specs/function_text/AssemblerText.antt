@@ -2,9 +2,10 @@
 -- is left for the assembler to encode; or, where that is asked for, as its instruction, behind a label. What changes
 -- for a debugger stands behind the word that changes it: where the caller's x2 was, from which register on, and where
 -- the caller's registers are kept.
-use Rattle.std.specs.Prelude.{◌≡◌, ◌≢◌, ℕ, ◌-◌, ◌^◌, false, List, [], ◌∷◌, ◌++◌, codes, length}
+use Rattle.std.specs.Prelude.{◌≡◌, ◌≢◌, ℕ, ◌+◌, ◌-◌, ◌^◌, false, List, [], ◌∷◌, ◌++◌, codes, length}
 use Rattle.std.specs.Fmt.{decimal, digits, padded_integral, format_spec}
-use Rattle.functions.specs.Below.{above_frame, body_words, Branch, branch_row, branch_target, enter_sections, Fence}
+use Rattle.functions.specs.Below.{above_frame, body_words, Branch, branch_row, branch_target, code_of, copier_of}
+use Rattle.functions.specs.Below.{copier_sections, enter_sections, Fence, kept_of, stack_register, stores_code}
 use Rattle.functions.specs.Below.{Fields, FixedArray, Form, function_words, Instr, IsInstr, Jump, jump_target}
 use Rattle.functions.specs.Below.{leave_sections, Load, MutableArray, P1, P2, Profile, reg_text, room_of, section_code}
 use Rattle.functions.specs.Below.{SingleWord, Store, sum_of, text_of, three_operands, two_operands, word_of}
@@ -13,11 +14,11 @@ use Rattle.linked_calls.specs.declared.section.Section.TheVariants.{RoomAboveFra
 use Rattle.linked_calls.specs.declared.section.Section.TheVariants.{FrameBase, ClearedFrame, LoweredStack, BlankWord}
 use Rattle.linked_calls.specs.declared.section.Section.TheVariants.{ArgumentIn, ResultOut}
 use Rattle.linked_calls.specs.declared.section.Section.TheVariants.{ArrayOut, FrameTop, RestoredRegisters}
-use Rattle.linked_calls.specs.declared.section.Section.TheVariants.{CallersStack, WipedRoom, ClearedRegisters, Return}
+use Rattle.linked_calls.specs.declared.section.Section.TheVariants.{CallersStack, WipedRoom, ClearedRegisters, Copier}
+use Rattle.linked_calls.specs.declared.section.Section.TheVariants.{Return}
 use Rattle.functions.specs.declared.function_text.notation.Notation.{Notation}
 use Rattle.functions.specs.declared.function_text.notation.Notation.TheVariants.{Mnemonics, Numbers}
 use Rattle.functions.specs.function_text.Functions.{FunctionParts}
-use Rattle.linked_calls.specs.declared.pace.Pace.{Pace}
 
 -- Words. The position of a word is how many bytes stand before it in the function, counted as the machine counts
 -- addresses.
@@ -101,12 +102,17 @@ section_title CallersStack = codes "the caller's x2"
 section_title WipedRoom = codes "all the room, wiped upward"
 section_title ClearedRegisters = codes "temporaries, wiped"
 section_title Return = codes "back"
+section_title (Copier round) = codes "from x5 to x6 up to x7, and back"
 
 -- a register of the caller is kept at an offset above the frame
 abbrev pub kept_line : Fields → Instr → List ℕ
 kept_line image (Store operation register base offset) =
     codes "    .cfi_offset " ++ decimal register ++ codes ", -" ++ decimal (above_frame image - offset) ++ codes "\n"
 kept_line image _ = []
+
+abbrev pub kept_lines : Fields → List Instr → List ℕ
+kept_lines image [] = []
+kept_lines image (instruction ∷ code) = kept_line image instruction ++ kept_lines image code
 
 -- a register of the caller is back
 abbrev pub restored_line : Instr → List ℕ
@@ -118,6 +124,12 @@ abbrev pub change_lines : Fields → Section → Instr → List ℕ
 change_lines image SavedRegisters instruction = kept_line image instruction
 change_lines image RestoredRegisters instruction = restored_line instruction
 change_lines image _ instruction = []
+
+-- what is so where a section begins: the copier is run between entering and leaving
+abbrev pub start_lines : Fields → Section → List ℕ
+start_lines image (Copier round) =
+    frame_line 2 (room_of image) ++ kept_lines image (stores_code stack_register 0 (kept_of image))
+start_lines image _ = []
 
 -- what changes by all of a section
 abbrev pub end_line : Fields → Section → List ℕ
@@ -141,23 +153,18 @@ code_lines notation f section at [] = []
 code_lines notation f section at (instruction ∷ code) =
     instruction_lines notation f section at instruction ++ code_lines notation f section (next_position at) code
 
-abbrev pub section_lines : Notation → FunctionParts → ℕ → Section → List ℕ
-section_lines notation f at section =
-    title_line (section_title section) ++ code_lines notation f section at (section_code f.image f.pace section)
+-- a section from a position on, with its code
+abbrev pub section_lines : Notation → FunctionParts → Section → ℕ → List Instr → List ℕ
+section_lines notation f section at code =
+    title_line (section_title section) ++ start_lines f.image section ++ code_lines notation f section at code
     ++ end_line f.image section
 
--- sections from a position on
-abbrev pub sections_lines : Notation → FunctionParts → ℕ → List Section → List ℕ
-sections_lines notation f at [] = []
-sections_lines notation f at (section ∷ sections) =
-    section_lines notation f at section
-    ++ sections_lines notation f (behind at (section_code f.image f.pace section)) sections
-
--- the position behind sections that begin at one
-abbrev pub behind_sections : Fields → Pace → ℕ → List Section → ℕ
-behind_sections image pace at [] = at
-behind_sections image pace at (section ∷ sections) =
-    behind_sections image pace (behind at (section_code image pace section)) sections
+-- sections from a position on, of which the last stands so many instructions before the copier
+abbrev pub sections_lines : Notation → FunctionParts → ℕ → ℕ → List Section → List ℕ
+sections_lines notation f distance at [] = []
+sections_lines notation f distance at (section ∷ sections) =
+    let code = section_code f.image f.pace (length (code_of f.image f.pace distance sections) + distance) section in
+    section_lines notation f section at code ++ sections_lines notation f distance (behind at code) sections
 
 -- The body, whose words are the image's.
 
@@ -210,20 +217,31 @@ abbrev pub tail_lines : FunctionParts → List ℕ
 tail_lines f = codes "    .cfi_endproc\n    .size " ++ f.name ++ codes ", . - " ++ f.name
     ++ codes "\n    .option pop\n"
 
+-- how many instructions there are from the body on up to the copier
+abbrev pub from_body : FunctionParts → ℕ
+from_body f = length (body_words f.image.words) + length (code_of f.image f.pace 0 (leave_sections f.image))
+
 -- where the body begins, and where what stands behind it does
 abbrev pub body_start : FunctionParts → ℕ
-body_start f = behind_sections f.image f.pace 0 (enter_sections f.image f.needs f.pace)
+body_start f = behind 0 (code_of f.image f.pace (from_body f) (enter_sections f.image f.needs f.pace))
 
 abbrev pub exit_start : FunctionParts → ℕ
 exit_start f = behind (body_start f) (body_words f.image.words)
 
 -- the sections before the body
 abbrev pub entry_lines : Notation → FunctionParts → List ℕ
-entry_lines notation f = sections_lines notation f 0 (enter_sections f.image f.needs f.pace)
+entry_lines notation f =
+    sections_lines notation f (from_body f) 0 (enter_sections f.image f.needs f.pace)
 
--- and those behind it
+-- those behind it, from a position on, and the copier
+abbrev pub behind_lines : Notation → FunctionParts → ℕ → List ℕ
+behind_lines notation f at =
+    sections_lines notation f 0 at (leave_sections f.image)
+    ++ sections_lines notation f 0 (behind at (code_of f.image f.pace 0 (leave_sections f.image)))
+    (copier_sections (copier_of f.image f.pace))
+
 abbrev pub exit_lines : Notation → FunctionParts → List ℕ
-exit_lines notation f = sections_lines notation f (exit_start f) (leave_sections f.image)
+exit_lines notation f = behind_lines notation f (exit_start f)
 
 pub record IsAssemblerText (notation : Notation) (f : FunctionParts) (text : List ℕ) : Type 0 where
   pub body : List ℕ

@@ -1,19 +1,17 @@
-// Elements between the caller's memory and the frame: few by straight code, many by a loop over some at a time.
+// Elements from where x5 is to where x6 is: few by straight code, many by a loop over some at a time.
 
-ghost use Rattle.std.specs.Prelude.{◌≡◌, ◌≤◌, ◌<◌, ◌+◌, ◌*◌, ◌/◌, ◌%◌, ◌++◌, OnOk, IfOk};
+ghost use Rattle.std.specs.Prelude.{◌≡◌, ◌≤◌, ◌<◌, ◌+◌, ◌*◌, ◌/◌, ◌%◌, ◌++◌, OnOk};
 ghost use Rattle.functions.specs.Below.{bound_code, copied_code, element_bytes, element_meant_code, elements_code};
-ghost use Rattle.functions.specs.Below.{far_code, few_elements, load_by, next_code, per_round, rounds_code, store_by};
+ghost use Rattle.functions.specs.Below.{far_code, few_elements, load_by, loop_code, next_code, own_round};
+ghost use Rattle.functions.specs.Below.{rounds_code, store_by, times};
 ghost use Rattle.functions.specs.function_code.private.Ways.{element_code};
 
 use crate::function_code::pieces::{added, store_by, until_equal};
 use codegen::expression_code::emit::{constant, load_by};
 use language::Kind;
-use linked_calls::Pace;
+use linked_calls::{Pace, Round};
 use rv_code::{Immediate12, ImmediateOperation, Instr, Reg, RegisterOperation};
 use std::alloc::{AllocError, Global};
-
-/// The words or bools that one round of the loop copies at a fast pace; of others, and at a small pace, it copies one.
-const ROUND: u32 = 4;
 
 /// From where on a number is no immediate.
 const FAR: u32 = 2048;
@@ -21,65 +19,77 @@ const FAR: u32 = 2048;
 /// Which way an array is copied.
 #[derive(Clone, Copy, Debug, PartialEq, Eq)]
 pub enum Way {
-    /// From the caller's array into the slot.
+    /// From the caller's array into the slot, as what the elements mean.
     In,
-    /// From the slot into the caller's array.
+    /// From the slot into the caller's array, as they are.
     Out,
 }
 
 /// From how many elements on they are copied by a loop.
-pub fn few_elements(pace: Pace, kind: Kind) -> u32
+fn few_elements(pace: Pace, kind: Kind) -> u32
     ensures few { result ≡ few_elements pace kind }
     ensures most { result ≤ 16 }
 {
     match (pace, kind) {
-        (Pace::Fast, Kind::Boolean | Kind::Uint32) => 16,
+        (Pace::Fast, Kind::Boolean | Kind::Uint32) => 8,
         (Pace::Fast, Kind::Uint8 | Kind::Uint16) => 4,
         (Pace::Small, Kind::Boolean | Kind::Uint8 | Kind::Uint16 | Kind::Uint32) => 4,
     }
 }
 
-/// How many elements one round of the loop copies.
-fn per_round(pace: Pace, kind: Kind) -> u32
-    ensures round { result ≡ per_round pace kind }
-    ensures few { result ≤ 4 }
+/// What one round of the loop copies.
+fn own_round(pace: Pace, kind: Kind) -> Round
+    ensures { result ≡ own_round pace kind }
 {
     match (pace, kind) {
-        (Pace::Fast, Kind::Boolean | Kind::Uint32) => ROUND,
-        (Pace::Fast, Kind::Uint8 | Kind::Uint16) => 1,
-        (Pace::Small, Kind::Boolean | Kind::Uint8 | Kind::Uint16 | Kind::Uint32) => 1,
+        (Pace::Fast, Kind::Boolean | Kind::Uint32) => Round::Two,
+        (Pace::Fast, Kind::Uint8 | Kind::Uint16) => Round::One,
+        (Pace::Small, Kind::Boolean | Kind::Uint8 | Kind::Uint16 | Kind::Uint32) => Round::One,
+    }
+}
+
+/// How many elements, or words, that is.
+pub fn times(round: Round) -> u32
+    ensures times { result ≡ times round }
+    ensures some { 0 < result }
+    ensures few { result ≤ 4 }
+{
+    match round {
+        Round::One => 1,
+        Round::Two => 2,
+        Round::Four => 4,
     }
 }
 
 /// How many of so many elements whole rounds copy.
-fn in_rounds(pace: Pace, kind: Kind, count: u32) -> u32
-    ensures rounds { result ≡ per_round pace kind * (count / per_round pace kind) }
+fn in_rounds(round: Round, count: u32) -> u32
+    ensures rounds { result ≡ times round * (count / times round) }
     ensures within { result ≤ count }
 {
-    match (pace, kind) {
-        (Pace::Fast, Kind::Boolean | Kind::Uint32) => ROUND * (count / ROUND),
-        (Pace::Fast, Kind::Uint8 | Kind::Uint16) => count,
-        (Pace::Small, Kind::Boolean | Kind::Uint8 | Kind::Uint16 | Kind::Uint32) => count,
+    match round {
+        Round::One => count,
+        Round::Two => 2 * (count / 2),
+        Round::Four => 4 * (count / 4),
     }
 }
 
 /// How many are left behind the rounds.
-pub fn left(pace: Pace, kind: Kind, count: u32) -> u32
-    ensures left { result ≡ count % per_round pace kind }
+fn left(round: Round, count: u32) -> u32
+    ensures left { result ≡ count % times round }
     ensures few { result < 4 }
 {
-    match (pace, kind) {
-        (Pace::Fast, Kind::Boolean | Kind::Uint32) => count % ROUND,
-        (Pace::Fast, Kind::Uint8 | Kind::Uint16) => 0,
-        (Pace::Small, Kind::Boolean | Kind::Uint8 | Kind::Uint16 | Kind::Uint32) => 0,
+    match round {
+        Round::One => 0,
+        Round::Two => count % 2,
+        Round::Four => count % 4,
     }
 }
 
-/// As many elements more are done as a round copies.
-fn next(code: &mut Vec<Instr>, pace: Pace, kind: Kind) -> Result<(), AllocError>
-    ensures { OnOk result (code.new.items ≡ code.old.items ++ next_code pace kind) }
+/// x5 and x6 go so many bytes on.
+fn next(code: &mut Vec<Instr>, bytes: u32) -> Result<(), AllocError>
+    requires { bytes < 4096 }
+    ensures { OnOk result (code.new.items ≡ code.old.items ++ next_code bytes) }
 {
-    let bytes = per_round(pace, kind) * u32::from(kind.element_bytes());
     code.push(added(Reg::X5, bytes))?;
     code.push(added(Reg::X6, bytes))?;
     Ok(())
@@ -112,26 +122,20 @@ fn element(code: &mut Vec<Instr>, way: Way, kind: Kind, offset: u32) -> Result<(
             code.push(Instr::Store(store_by(kind), Reg::X28, Reg::X6, place))?;
         }
         Way::Out => {
-            code.push(Instr::Load(load_by(kind), Reg::X28, Reg::X6, place))?;
-            code.push(Instr::Store(store_by(kind), Reg::X28, Reg::X5, place))?;
+            code.push(Instr::Load(load_by(kind), Reg::X28, Reg::X5, place))?;
+            code.push(Instr::Store(store_by(kind), Reg::X28, Reg::X6, place))?;
         }
     }
     Ok(())
 }
 
-/// So many elements, the first at an offset of where x5 and x6 are.
-pub fn elements(
-    code: &mut Vec<Instr>,
-    way: Way,
-    kind: Kind,
-    first: u32,
-    count: u32,
-) -> Result<(), AllocError>
-    requires { first + 4 * count ≤ 128 }
+/// So many elements, the first where x5 and x6 are.
+pub fn elements(code: &mut Vec<Instr>, way: Way, kind: Kind, count: u32) -> Result<(), AllocError>
+    requires { count ≤ 32 }
     ensures { OnOk result (code.new.items
-        ≡ code.old.items ++ elements_code (element_code way kind) (element_bytes kind) first count) }
+        ≡ code.old.items ++ elements_code (element_code way kind) (element_bytes kind) 0 count) }
 {
-    let mut offset = first;
+    let mut offset = 0;
     let mut left = count;
     'elements: while left != 0 {
         element(code, way, kind, offset)?;
@@ -151,7 +155,7 @@ fn far(code: &mut Vec<Instr>, bytes: u32) -> Result<(), AllocError>
 }
 
 /// Where a loop ends, which is so many bytes behind x5, into x7.
-fn bound(code: &mut Vec<Instr>, bytes: u32) -> Result<(), AllocError>
+pub fn bound(code: &mut Vec<Instr>, bytes: u32) -> Result<(), AllocError>
     ensures { OnOk result (code.new.items ≡ code.old.items ++ bound_code bytes) }
 {
     if bytes < FAR {
@@ -160,6 +164,23 @@ fn bound(code: &mut Vec<Instr>, bytes: u32) -> Result<(), AllocError>
         return Ok(());
     }
     far(code, bytes)
+}
+
+/// Elements in rounds, as long as x5 is not where x7 is.
+pub fn looped(
+    alloc: Global,
+    code: &mut Vec<Instr>,
+    way: Way,
+    kind: Kind,
+    round: Round,
+) -> Result<(), AllocError>
+    ensures { OnOk result (code.new.items ≡ code.old.items ++ loop_code (element_code way kind) kind (times round)) }
+{
+    let count = times(round);
+    let mut body = Vec::new(alloc);
+    elements(&mut body, way, kind, count)?;
+    next(&mut body, count * u32::from(kind.element_bytes()))?;
+    until_equal(code, Reg::X5, Reg::X7, body.as_slice())
 }
 
 /// Some elements a round, up to x7, and those that are left.
@@ -174,13 +195,13 @@ fn rounds(
     requires { count < 65536 }
     ensures { OnOk result (code.new.items ≡ code.old.items ++ rounds_code pace (element_code way kind) kind count) }
 {
-    let bytes = u32::from(kind.element_bytes());
-    bound(code, bytes * in_rounds(pace, kind, count))?;
-    let mut round = Vec::new(alloc);
-    elements(&mut round, way, kind, 0, per_round(pace, kind))?;
-    next(&mut round, pace, kind)?;
-    until_equal(code, Reg::X5, Reg::X7, round.as_slice())?;
-    elements(code, way, kind, 0, left(pace, kind, count))
+    let round = own_round(pace, kind);
+    bound(
+        code,
+        u32::from(kind.element_bytes()) * in_rounds(round, count),
+    )?;
+    looped(alloc, code, way, kind, round)?;
+    elements(code, way, kind, left(round, count))
 }
 
 /// So many elements.
@@ -196,7 +217,7 @@ pub fn copied(
     ensures { OnOk result (code.new.items ≡ code.old.items ++ copied_code pace (element_code way kind) kind count) }
 {
     if count < few_elements(pace, kind) {
-        elements(code, way, kind, 0, count)
+        elements(code, way, kind, count)
     } else {
         rounds(alloc, code, pace, way, kind, count)
     }

@@ -2,7 +2,7 @@
 
 ghost use Rattle.std.specs.Prelude.{◌≡◌, ◌++◌, ◌∷◌, [], OnOk};
 ghost use Rattle.functions.specs.Below.{above_code, above_frame, argument_code, argument_register};
-ghost use Rattle.functions.specs.Below.{constant_code, meant_code, Register};
+ghost use Rattle.functions.specs.Below.{constant_code, copier_of, meant_code, Register};
 ghost use Rattle.functions.specs.Below.{stack_register, stacked_code, Sub, word_code};
 ghost use Rattle.functions.specs.function_code.Above.{IsAbove};
 
@@ -111,21 +111,25 @@ fn word(
     store(code, register, slot.offset)
 }
 
-/// An argument into its slot.
+/// An argument into its slot, so many instructions before the copier.
 pub fn argument(
     alloc: Global,
     code: &mut Vec<Instr>,
     image: &ImageFields,
     around: Around,
+    behind: u32,
     index: u16,
     slot: Slot,
 ) -> Result<(), AllocError>
-    requires { IsAbove image.now around.above }
+    requires above { IsAbove image.now around.above }
+    requires copier { around.copier ≡ copier_of image.now around.pace }
     ensures { OnOk result (code.new.items
-        ≡ code.old.items ++ argument_code image.now around.pace index slot slot.param.form) }
+        ≡ code.old.items ++ argument_code image.now around.pace behind index slot slot.param.form) }
 {
     match slot.param.form {
         Form::SingleWord => word(code, image, around.above, index, slot),
-        Form::FixedArray | Form::MutableArray => copy_in(alloc, code, image, around, index, slot),
+        Form::FixedArray | Form::MutableArray => {
+            copy_in(alloc, code, image, around, behind, index, slot)
+        }
     }
 }

@@ -1,7 +1,7 @@
 // Instructions of the sections behind the body.
 
 ghost use Rattle.std.specs.Prelude.{◌≡◌, ◌++◌, ◌∷◌, [], OnOk};
-ghost use Rattle.functions.specs.Below.{above_frame, added, address_code, copy_out_code, JumpRegister};
+ghost use Rattle.functions.specs.Below.{above_frame, added, address_code, copier_of, copy_out_code, JumpRegister};
 ghost use Rattle.functions.specs.Below.{link_register, result_code};
 ghost use Rattle.functions.specs.function_code.Above.{IsAbove};
 
@@ -30,22 +30,24 @@ pub fn result(code: &mut Vec<Instr>, returned: Option<ResultSlot>) -> Result<(),
     }
 }
 
-/// An array that may be changed back to the caller.
+/// An array that may be changed back to the caller, so many instructions before the copier.
 pub fn array(
     alloc: Global,
     code: &mut Vec<Instr>,
     image: &ImageFields,
     around: Around,
+    behind: u32,
     index: u16,
     slot: Slot,
 ) -> Result<(), AllocError>
-    requires { IsAbove image.now around.above }
+    requires above { IsAbove image.now around.above }
+    requires copier { around.copier ≡ copier_of image.now around.pace }
     ensures { OnOk result (code.new.items
-        ≡ code.old.items ++ copy_out_code image.now around.pace index slot slot.param.form) }
+        ≡ code.old.items ++ copy_out_code image.now around.pace behind index slot slot.param.form) }
 {
     match slot.param.form {
         Form::SingleWord | Form::FixedArray => Ok(()),
-        Form::MutableArray => copy_out(alloc, code, image, around, index, slot),
+        Form::MutableArray => copy_out(alloc, code, image, around, behind, index, slot),
     }
 }
 

@@ -1,6 +1,6 @@
 // Instructions that several sections have: registers to memory and back, and loops.
 
-ghost use Rattle.std.specs.Prelude.{◌≡◌, ◌≤◌, ◌<◌, ◌+◌, ◌*◌, ◌++◌, length, map, OnOk};
+ghost use Rattle.std.specs.Prelude.{◌≡◌, ◌≤◌, ◌<◌, ◌+◌, ◌*◌, ◌%◌, ◌^◌, ◌++◌, length, map, OnOk};
 ghost use Rattle.functions.specs.Below.{added, address_code, clear_registers_code, loads_code};
 ghost use Rattle.functions.specs.Below.{store_by, stores_code, until_equal};
 
@@ -17,6 +17,16 @@ const BRANCH_HALVES: u32 = 4096;
 
 /// From where on an offset is no immediate.
 const FAR: u32 = 2048;
+
+/// How many values a word has.
+const WORDS: u64 = 4_294_967_296;
+
+/// A count as far as addresses go.
+pub fn wrapped(count: usize) -> u32
+    ensures { result ≡ count % 2 ^ 32 }
+{
+    (count as u64 % WORDS) as u32
+}
 
 /// A number added to a register; 4096 - n takes n away.
 pub fn added(register: Reg, n: u32) -> Instr

@@ -1,14 +1,15 @@
 // How much of the stack a call takes, and where its parts lie.
 
 ghost use Rattle.std.specs.Prelude.{◌≡◌, ◌≤◌, ◌+◌, ◌*◌, length};
-ghost use Rattle.functions.specs.Below.{above_frame, argument_offset, first_argument, frame_room, needed_for};
-ghost use Rattle.functions.specs.Below.{needed_from, needed_of, room_of, stacked_offset};
+ghost use Rattle.functions.specs.Below.{above_frame, argument_offset, copier_of, first_argument, frame_room};
+ghost use Rattle.functions.specs.Below.{needed_for, needed_from, needed_of, room_of, stacked_offset};
 ghost use Rattle.functions.specs.function_code.Above.{IsAbove};
 
+use crate::function_code::copier::copier_of;
 use crate::function_code::kept::kept_count;
 use codegen::image_fields::{ImageFields, Slot};
 use language::Form;
-use linked_calls::Pace;
+use linked_calls::{Pace, Round};
 
 /// A block of the stack, of which x2 is always a multiple.
 const BLOCK: u32 = 16;
@@ -19,10 +20,12 @@ const WORD: u32 = 4;
 /// How many arguments the registers a0 to a7 take.
 pub const IN_REGISTERS: u16 = 8;
 
-/// What the code around a body is made by: how many bytes stand above its frame, counted once, and the pace.
+/// What the code around a body is made by: how many bytes stand above its frame and which copier its arrays share, both
+/// found once, and the pace.
 #[derive(Clone, Copy)]
 pub struct Around {
     pub above: u32,
+    pub copier: Option<Round>,
     pub pace: Pace,
 }
 
@@ -76,6 +79,19 @@ pub fn above_frame(image: &ImageFields) -> u32
     ensures { IsAbove image.now result }
 {
     (WORD * (kept_count(image) + needed_count(image))).div_ceil(BLOCK) * BLOCK
+}
+
+/// What the code around the body of an image is made by, at a pace.
+pub fn around_body(image: &ImageFields, pace: Pace) -> Around
+    ensures above { IsAbove image.now result.above }
+    ensures copier { result.copier ≡ copier_of image.now pace }
+    ensures pace { result.pace ≡ pace }
+{
+    Around {
+        above: above_frame(image),
+        copier: copier_of(image, pace),
+        pace,
+    }
 }
 
 /// Where a0 is stored above the frame.

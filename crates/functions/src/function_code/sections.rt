@@ -1,21 +1,23 @@
 // The sections of a function's code: one list of them is what its words, its text and its steps are made of.
 
-ghost use Rattle.std.specs.Prelude.{◌≡◌, ◌≤◌, ◌++◌, ◌∷◌, [], length, map, OnOk, IfOk};
+ghost use Rattle.std.specs.Prelude.{◌≡◌, ◌≤◌, ◌+◌, ◌%◌, ◌^◌, ◌++◌, ◌∷◌, [], List, length, map, OnOk, IfOk};
 ghost use Rattle.std.specs.Option.{option_map};
 ghost use Rattle.functions.specs.Below.{argument_sections, array_section, array_sections, enter_sections};
 ghost use Rattle.functions.specs.Below.{first_argument, frame_sections, kept_of, leave_sections, loads_code, needed_of};
-ghost use Rattle.functions.specs.Below.{section_code, stores_code};
+ghost use Rattle.functions.specs.Below.{code_of, copier_of, copier_sections, section_code, stores_code};
 ghost use Rattle.functions.specs.function_code.Above.{IsAbove};
 ghost use Rattle.functions.specs.Below.{argument_section, is_open, is_skipped};
 ghost use Rattle.hepurita.specs.Needs.{needs_as};
+ghost use Rattle.linked_calls.specs.declared.section.Section.{Section};
 ghost use Rattle.linked_calls.specs.declared.section.Section.TheVariants.{BlankWord, ClearedFrame, FrameBase};
 ghost use Rattle.linked_calls.specs.declared.section.Section.TheVariants.{LoweredStack};
 
 use crate::function_code::blank::{are_few, blank_word, lowered_stack};
+use crate::function_code::copier::copier;
 use crate::function_code::entering::{argument, frame_base, room_above};
 use crate::function_code::kept::kept;
 use crate::function_code::leaving::{array, callers_stack, frame_top, go_back, result};
-use crate::function_code::pieces::{clear_registers, loads, stores};
+use crate::function_code::pieces::{clear_registers, loads, stores, wrapped};
 use crate::function_code::registers;
 use crate::function_code::room::{Around, first_argument, frame_room, needed_count, room_of};
 use crate::function_code::zeroing::{cleared_frame, wiped_room};
@@ -225,10 +227,12 @@ fn push_code(
     code: &mut Vec<Instr>,
     image: &ImageFields,
     around: Around,
+    behind: u32,
     section: Section,
 ) -> Result<(), AllocError>
-    requires { IsAbove image.now around.above }
-    ensures { OnOk result (code.new.items ≡ code.old.items ++ section_code image.now around.pace section) }
+    requires above { IsAbove image.now around.above }
+    requires copier { around.copier ≡ copier_of image.now around.pace }
+    ensures { OnOk result (code.new.items ≡ code.old.items ++ section_code image.now around.pace behind section) }
 {
     match section {
         Section::RoomAboveFrame => room_above(code, image, around.above),
@@ -238,29 +242,102 @@ fn push_code(
         Section::ClearedFrame => cleared_frame(alloc, code, around.pace, frame_room(image)),
         Section::LoweredStack => lowered_stack(code, frame_room(image)),
         Section::BlankWord(offset) => blank_word(code, offset),
-        Section::ArgumentIn(index, slot) => argument(alloc, code, image, around, index, slot),
+        Section::ArgumentIn(index, slot) => {
+            argument(alloc, code, image, around, behind, index, slot)
+        }
         Section::ResultOut => result(code, image.returned()),
-        Section::ArrayOut(index, slot) => array(alloc, code, image, around, index, slot),
+        Section::ArrayOut(index, slot) => array(alloc, code, image, around, behind, index, slot),
         Section::FrameTop => frame_top(code, frame_room(image)),
         Section::RestoredRegisters => restored_registers(alloc, code, image),
         Section::CallersStack => callers_stack(code, image, around.above),
         Section::WipedRoom => wiped_room(alloc, code, around.pace, room_of(image)),
         Section::ClearedRegisters => clear_registers(code, &registers::scratch()),
         Section::Return => go_back(code),
+        Section::Copier(round) => copier(alloc, code, round),
     }
 }
 
-/// The instructions of a section of an image's function, with so many bytes above its frame, at a pace.
+/// The instructions of a section of an image's function, which stands so many instructions before the copier.
 pub fn section_code(
     alloc: Global,
     image: &ImageFields,
     around: Around,
+    behind: u32,
     section: Section,
 ) -> Result<Vec<Instr>, AllocError>
-    requires { IsAbove image.now around.above }
-    ensures { IfOk result (λ code. code.items ≡ section_code image.now around.pace section) }
+    requires above { IsAbove image.now around.above }
+    requires copier { around.copier ≡ copier_of image.now around.pace }
+    ensures { IfOk result (λ code. code.items ≡ section_code image.now around.pace behind section) }
 {
     let mut code = Vec::new(alloc);
-    push_code(alloc, &mut code, image, around, section)?;
+    push_code(alloc, &mut code, image, around, behind, section)?;
     Ok(code)
+}
+
+/// How many instructions a section has, wherever the copier stands, as far as addresses go.
+fn section_length(
+    alloc: Global,
+    image: &ImageFields,
+    around: Around,
+    section: Section,
+) -> Result<u32, AllocError>
+    requires above { IsAbove image.now around.above }
+    requires copier { around.copier ≡ copier_of image.now around.pace }
+    ensures { IfOk result (λ count. count ≡ length (section_code image.now around.pace 0 section) % 2 ^ 32) }
+{
+    let code = section_code(alloc, image, around, 0, section)?;
+    Ok(wrapped(code.len()))
+}
+
+/// The instructions of a section, where it and those behind it have so many and the last stands so many before the
+/// copier.
+pub fn next_code(
+    alloc: Global,
+    image: &ImageFields,
+    around: Around,
+    behind: u32,
+    left: u32,
+    section: Section,
+) -> Result<Vec<Instr>, AllocError>
+    requires above { IsAbove image.now around.above }
+    requires copier { around.copier ≡ copier_of image.now around.pace }
+    ensures { IfOk result (λ code. (rest : List Section)
+        → left ≡ length (code_of image.now around.pace 0 (section ∷ rest)) % 2 ^ 32
+        → code.items ≡ section_code image.now around.pace
+        (length (code_of image.now around.pace behind rest) + behind) section) }
+{
+    let own = section_length(alloc, image, around, section)?;
+    let rest = left.wrapping_sub(own);
+    let code = section_code(alloc, image, around, rest.wrapping_add(behind), section)?;
+    Ok(code)
+}
+
+/// How many all of these have.
+pub fn sections_length(
+    alloc: Global,
+    image: &ImageFields,
+    around: Around,
+    sections: &[Section],
+) -> Result<u32, AllocError>
+    requires above { IsAbove image.now around.above }
+    requires copier { around.copier ≡ copier_of image.now around.pace }
+    ensures { IfOk result (λ count. count ≡ length (code_of image.now around.pace 0 sections.now) % 2 ^ 32) }
+{
+    let mut count: u32 = 0;
+    for section in sections {
+        count = count.wrapping_add(section_length(alloc, image, around, *section)?);
+    }
+    Ok(count)
+}
+
+/// That of the copier, where the function has one.
+pub fn copier_sections(alloc: Global, around: Around) -> Result<Vec<Section>, AllocError>
+    ensures { IfOk result (λ sections. sections.items ≡ copier_sections around.copier) }
+{
+    let mut sections = Vec::new(alloc);
+    match around.copier {
+        None => {}
+        Some(round) => sections.push(Section::Copier(round))?,
+    }
+    Ok(sections)
 }

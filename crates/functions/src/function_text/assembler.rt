@@ -2,8 +2,8 @@
 
 ghost use Rattle.std.specs.Prelude.{◌≡◌, ℕ, ◌++◌, List, [], codes, OnOk, IfOk};
 ghost use Rattle.std.specs.String.{string_bytes};
-ghost use Rattle.functions.specs.Below.{body_words, leave_sections, section_code};
-ghost use Rattle.functions.specs.function_text.AssemblerText.{ListsWords, IsAssemblerText, behind, behind_sections};
+ghost use Rattle.functions.specs.Below.{body_words, code_of, copier_of};
+ghost use Rattle.functions.specs.function_text.AssemblerText.{ListsWords, IsAssemblerText, behind, behind_lines};
 ghost use Rattle.functions.specs.function_text.AssemblerText.{body_start, code_lines, section_lines, sections_lines};
 ghost use Rattle.functions.specs.function_text.AssemblerText.{profile_text, sizes_text, title_line};
 ghost use Rattle.functions.specs.function_text.AssemblerText.{first_line, place_lines, symbol_lines, head_lines};
@@ -12,11 +12,13 @@ ghost use Rattle.functions.specs.function_text.Functions.{parts_of};
 ghost use Rattle.functions.specs.function_code.Above.{IsAbove};
 
 use crate::function_code::{
-    Around, above_frame, body, enter_sections, function_words, leave_sections, room_of,
-    section_code,
+    Around, around_body, body, copier_sections, enter_sections, from_body, function_words,
+    leave_sections, next_code, room_of, sections_length, wrapped,
 };
 use crate::function_text::function::Function;
-use crate::function_text::lines::{push_end, push_instruction, push_number, push_title};
+use crate::function_text::lines::{
+    push_end, push_instruction, push_number, push_start, push_title,
+};
 use crate::function_text::notation::{Notation, next_position, push_word};
 use language::Profile;
 use linked_calls::Section;
@@ -54,47 +56,63 @@ fn push_code(
     Ok(at)
 }
 
-/// A section from a position on, at the end of a text; and the position behind it.
+/// A section from a position on, with this code, at the end of a text; and the position behind it.
 fn push_section(
     alloc: Global,
     text: &mut String,
     function: &Function,
     notation: Notation,
-    above: u32,
-    start: u32,
+    around: Around,
     section: Section,
+    start: u32,
+    code: &[Instr],
 ) -> Result<u32, AllocError>
-    requires { IsAbove function.now.image above }
+    requires above { IsAbove function.now.image around.above }
+    requires copier { around.copier ≡ copier_of function.now.image around.pace }
     ensures written { OnOk result (string_bytes text.new ≡ string_bytes text.old
-        ++ section_lines notation (parts_of function.now) start section) }
-    ensures ends { IfOk result (λ end. end ≡ behind start (section_code function.now.image function.now.pace section)) }
+        ++ section_lines notation (parts_of function.now) section start code.now) }
+    ensures ends { IfOk result (λ end. end ≡ behind start code.now) }
 {
-    let pace = function.pace;
-    let code = section_code(alloc, &function.image, Around { above, pace }, section)?;
     push_title(text, section)?;
-    let end = push_code(text, function, notation, section, start, code.as_slice())?;
+    push_start(alloc, text, &function.image, around, section)?;
+    let end = push_code(text, function, notation, section, start, code)?;
     push_end(text, &function.image, section)?;
     Ok(end)
 }
 
-/// Sections from a position on, at the end of a text; and the position behind them.
+/// Sections from a position on, of which the last stands so many instructions before the copier, at the end of a text;
+/// and the position behind them.
 fn push_sections(
     alloc: Global,
     text: &mut String,
     function: &Function,
     notation: Notation,
+    distance: u32,
     start: u32,
     sections: &[Section],
 ) -> Result<u32, AllocError>
     ensures written { OnOk result (string_bytes text.new ≡ string_bytes text.old
-        ++ sections_lines notation (parts_of function.now) start sections.now) }
+        ++ sections_lines notation (parts_of function.now) distance start sections.now) }
     ensures ends { IfOk result (λ end.
-        end ≡ behind_sections function.now.image function.now.pace start sections.now) }
+        end ≡ behind start (code_of function.now.image function.now.pace distance sections.now)) }
 {
-    let above = above_frame(&function.image);
+    let image = &function.image;
+    let around = around_body(image, function.pace);
+    let mut left = sections_length(alloc, image, around, sections)?;
     let mut at = start;
     for section in sections {
-        at = push_section(alloc, text, function, notation, above, at, *section)?;
+        let code = next_code(alloc, image, around, distance, left, *section)?;
+        left = left.wrapping_sub(wrapped(code.len()));
+        at = push_section(
+            alloc,
+            text,
+            function,
+            notation,
+            around,
+            *section,
+            at,
+            code.as_slice(),
+        )?;
     }
     Ok(at)
 }
@@ -200,8 +218,21 @@ fn push_entry(
         ≡ string_bytes text.old ++ entry_lines notation (parts_of function.now)) }
     ensures ends { IfOk result (λ end. end ≡ body_start (parts_of function.now)) }
 {
-    let sections = enter_sections(alloc, &function.image, &function.needs, function.pace)?;
-    push_sections(alloc, text, function, notation, 0, sections.as_slice())
+    let image = &function.image;
+    let around = around_body(image, function.pace);
+    let sections = enter_sections(alloc, image, &function.needs, function.pace)?;
+    let leave = leave_sections(alloc, image)?;
+    let distance = from_body(alloc, image, around, leave.as_slice())?;
+    let end = push_sections(
+        alloc,
+        text,
+        function,
+        notation,
+        distance,
+        0,
+        sections.as_slice(),
+    )?;
+    Ok(end)
 }
 
 /// The body from a position on, at the end of a text; and the position behind it.
@@ -233,10 +264,13 @@ fn push_exit(
     start: u32,
 ) -> Result<(), AllocError>
     ensures { OnOk result (string_bytes text.new ≡ string_bytes text.old
-        ++ sections_lines notation (parts_of function.now) start (leave_sections function.now.image)) }
+        ++ behind_lines notation (parts_of function.now) start) }
 {
-    let sections = leave_sections(alloc, &function.image)?;
-    push_sections(alloc, text, function, notation, start, sections.as_slice())?;
+    let image = &function.image;
+    let leave = leave_sections(alloc, image)?;
+    let end = push_sections(alloc, text, function, notation, 0, start, leave.as_slice())?;
+    let copier = copier_sections(alloc, around_body(image, function.pace))?;
+    push_sections(alloc, text, function, notation, 0, end, copier.as_slice())?;
     Ok(())
 }
 

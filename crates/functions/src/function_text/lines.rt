@@ -5,17 +5,20 @@ ghost use Rattle.std.specs.Fmt.{decimal};
 ghost use Rattle.std.specs.String.{string_bytes};
 ghost use Rattle.functions.specs.function_text.AssemblerText.{title_line, frame_line};
 ghost use Rattle.functions.specs.function_text.AssemblerText.{argument_title, section_title, kept_line, restored_line};
-ghost use Rattle.functions.specs.function_text.AssemblerText.{change_lines, end_line, instruction_lines};
+ghost use Rattle.functions.specs.Below.{copier_of};
+ghost use Rattle.functions.specs.function_code.Above.{IsAbove};
+ghost use Rattle.functions.specs.function_text.AssemblerText.{change_lines, end_line, instruction_lines, kept_lines};
+ghost use Rattle.functions.specs.function_text.AssemblerText.{start_lines};
 ghost use Rattle.functions.specs.function_text.Functions.{parts_of};
 
-use crate::function_code::{above_frame, room_of};
+use crate::function_code::{Around, above_frame, room_of, section_code};
 use crate::function_text::function::Function;
 use crate::function_text::notation::{Notation, push_code_line};
 use codegen::image_fields::ImageFields;
 use language::Form;
 use linked_calls::Section;
 use rv_code::Instr;
-use std::alloc::AllocError;
+use std::alloc::{AllocError, Global};
 use std::fmt::Write;
 
 /// A number in decimal.
@@ -106,6 +109,7 @@ fn push_section_title(text: &mut String, section: Section) -> Result<(), AllocEr
         Section::WipedRoom => text.push_str("all the room, wiped upward"),
         Section::ClearedRegisters => text.push_str("temporaries, wiped"),
         Section::Return => text.push_str("back"),
+        Section::Copier(_) => text.push_str("from x5 to x6 up to x7, and back"),
     }
 }
 
@@ -131,6 +135,16 @@ fn push_kept(text: &mut String, image: &ImageFields, instruction: &Instr) -> Res
         }
         _ => Ok(()),
     }
+}
+
+/// Where all registers of the caller are kept that these instructions store.
+fn push_kept_lines(text: &mut String, image: &ImageFields, code: &[Instr]) -> Result<(), AllocError>
+    ensures { OnOk result (string_bytes text.new ≡ string_bytes text.old ++ kept_lines image.now code.now) }
+{
+    for instruction in code {
+        push_kept(text, image, instruction)?;
+    }
+    Ok(())
 }
 
 /// That the register of a number is the caller's again.
@@ -184,6 +198,28 @@ pub fn push_instruction(
 {
     push_code_line(text, notation, function.name.as_str(), at, instruction)?;
     push_change(text, &function.image, section, instruction)
+}
+
+/// What is so for a debugger where a section begins: the copier is run between entering and leaving.
+pub fn push_start(
+    alloc: Global,
+    text: &mut String,
+    image: &ImageFields,
+    around: Around,
+    section: Section,
+) -> Result<(), AllocError>
+    requires above { IsAbove image.now around.above }
+    requires copier { around.copier ≡ copier_of image.now around.pace }
+    ensures { OnOk result (string_bytes text.new ≡ string_bytes text.old ++ start_lines image.now section) }
+{
+    match section {
+        Section::Copier(_) => {
+            push_frame(text, 2, room_of(image))?;
+            let kept = section_code(alloc, image, around, 0, Section::SavedRegisters)?;
+            push_kept_lines(text, image, kept.as_slice())
+        }
+        _ => Ok(()),
+    }
 }
 
 /// What has changed for a debugger at the end of a section.

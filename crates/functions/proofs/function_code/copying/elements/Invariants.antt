@@ -7,7 +7,7 @@ use Rattle.functions.proofs.function_code.copying.elements.Given as goal
 abbrev pub invariant-elements : goal.invariant-elements
 invariant-elements l = record {
   code : l.code.items ++ elements_code (element_code l.fn.way l.fn.kind) (element_bytes l.fn.kind) l.offset l.left
-      ≡ l.fn.code.items ++ elements_code (element_code l.fn.way l.fn.kind) (element_bytes l.fn.kind) l.fn.first
+      ≡ l.fn.code.items ++ elements_code (element_code l.fn.way l.fn.kind) (element_bytes l.fn.kind) 0
       l.fn.count;
   near : l.offset + 4 * l.left ≤ 128;
 }
