@@ -7,11 +7,11 @@ WORD = re.compile(r"^    \.word 0x([0-9a-f]{8})  # (.*)$")
 HEAD = re.compile(r"^# (\w+): made by factc [\d.]+ function; (\d+) words, (\d+) bytes of stack, profile ([12])$")
 ARRAY = re.compile(r"^parameter (\d+): an array$")
 SIZES = {"bool": 1, "uint8": 1, "uint16": 2, "uint32": 4}
-# What a loop does at once in the code around a body: the words that a run zeroes, by the type of elements how many a round copies and
-# from how many on there is a loop, and whether arrays may share a copier.
-Pace = collections.namedtuple("Pace", "run round loop copier")
-FAST = Pace(8, {"bool": 2, "uint8": 1, "uint16": 1, "uint32": 2}, {"bool": 8, "uint8": 4, "uint16": 4, "uint32": 8}, True)
-SMALL = Pace(4, dict.fromkeys(SIZES, 1), dict.fromkeys(SIZES, 4), False)
+# What a loop does at once in the code around a body: by the type of elements how many a round copies and from how many on there
+# is a loop, and whether arrays may share a copier.
+Pace = collections.namedtuple("Pace", "round loop copier")
+FAST = Pace({"bool": 2, "uint8": 1, "uint16": 1, "uint32": 2}, {"bool": 8, "uint8": 4, "uint16": 4, "uint32": 8}, True)
+SMALL = Pace(dict.fromkeys(SIZES, 1), dict.fromkeys(SIZES, 4), False)
 # From how many elements on an array goes by the copier.
 CALLED = {"bool": 4, "uint8": 4, "uint16": 2, "uint32": 5}
 
@@ -123,7 +123,7 @@ def wrapper_steps(parameters, offsets, frame, result, kept, pointers=None, blank
     of 4. So many words of the frame are zeroed one by one, or all of them in runs. Only these arrays are copied in, or all."""
     needed = max((number + 1 for number, (form, _, _) in enumerate(parameters[:8]) if form == "mut"), default=0)
     low, above = blocks(frame), blocks(4 * (kept + needed))
-    steps = (1 if above else 0) + kept + needed + framed(low, blank, pace)
+    steps = (1 if above else 0) + kept + needed + framed(low, blank)
     size = round_of(parameters)
     for number, (form, kind, length) in enumerate(parameters):
         stacked = load(low + above + 4 * (number - 8))
@@ -137,13 +137,12 @@ def wrapper_steps(parameters, offsets, frame, result, kept, pointers=None, blank
                 steps += head + address(offsets[number]) + (copied(kind, length, 3, pace) if kind == "bool" else moved(kind, length, aligned, size, pace))
             steps += back + address(offsets[number]) + moved(kind, length, aligned, size, pace) if form == "mut" else 0
     steps += load(result) if result is not None else 1
-    return steps + address(low) + 1 + kept + zeroed(low + above, pace) + 15
+    return steps + address(low) + 1 + kept + zeroed(low + above) + 15
 
 
-def zeroed(room, pace):
-    """The words beside the runs and x2 moved by them, and for each run its stores, x2 moved and the branch."""
-    rest = room % (4 * pace.run) // 4
-    return (rest + 1 if rest else 0) + (pace.run + 2) * (room // (4 * pace.run))
+def zeroed(room):
+    """For each block of 16 bytes its stores, x2 moved and the branch."""
+    return 6 * (room // 16)
 
 
 def copied(kind, length, each, pace):
@@ -184,9 +183,9 @@ def blocks(number):
     return (number + 15) // 16 * 16
 
 
-def framed(low, blank, pace):
+def framed(low, blank):
     if blank is None or not low:
-        return constant(low) + 1 + zeroed(low, pace) if low else 0
+        return constant(low) + 1 + zeroed(low) if low else 0
     return (1 if near(low) else constant(low) + 2) + blank
 
 

@@ -1,6 +1,5 @@
 pub mod BodyLemmas
 pub mod ElementLemmas
-pub mod ZeroLemmas
 pub mod ArgumentLemmas
 pub mod DistanceLemmas
 pub mod WordLemmas

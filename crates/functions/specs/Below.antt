@@ -45,11 +45,11 @@ pub use Rattle.linked_calls.specs.FunctionCode.{array_code, bound_code, by_align
 pub use Rattle.linked_calls.specs.FunctionCode.{copier_code, copier_of, divides, divides_all, elements_code, far_code}
 pub use Rattle.linked_calls.specs.FunctionCode.{goes_as_it_is, goes_by_call, goes_in_as_it_is, in_round, is_any_worth}
 pub use Rattle.linked_calls.specs.FunctionCode.{is_near, is_worth, is_worth_a_call, loop_code, per_word, round_of}
-pub use Rattle.linked_calls.specs.Paces.{few_elements, least_for_call, most_blanks, own_round, run_words, times}
+pub use Rattle.linked_calls.specs.Paces.{few_elements, least_for_call, most_blanks, own_round, times}
 pub use Rattle.linked_calls.specs.FunctionCode.{copy_in_code, copy_out_code, down_code, element_meant_code}
 pub use Rattle.linked_calls.specs.FunctionCode.{frame_room, loads_code}
-pub use Rattle.linked_calls.specs.FunctionCode.{meant_code, next_code, rest_words, result_code, room_of}
-pub use Rattle.linked_calls.specs.FunctionCode.{rounds_code, run_count, runs_code}
+pub use Rattle.linked_calls.specs.FunctionCode.{meant_code, next_code, result_code, room_of}
+pub use Rattle.linked_calls.specs.FunctionCode.{rounds_code}
 pub use Rattle.linked_calls.specs.FunctionCode.{store_by, stores_code}
 pub use Rattle.linked_calls.specs.FunctionCode.{until_equal, up_code, wipe_code, word_code, zeros_code}
 unfoldable pub use Rattle.linked_calls.specs.FunctionCode.{function_words}

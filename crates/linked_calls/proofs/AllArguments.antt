@@ -8,7 +8,7 @@ use Rattle.std.proofs.lemmas.List.{length-map}
 use Rattle.codegen.proofs.program_logic_lemmas.Counted.{no_code, Runs, Setting, weaken_runs}
 use Rattle.linked_calls.proofs.Below.{AreBytes, AreData, Arg, argument_code, argument_of, argument_offset}
 use Rattle.linked_calls.proofs.Below.{argument_register, argument_registers, arguments_code, arguments_end}
-use Rattle.linked_calls.proofs.Below.{arguments_from, Array, array_bytes, ByteMap, CanBeCopied, CanBePut, MachineCode}
+use Rattle.linked_calls.proofs.Below.{Array, array_bytes, ByteMap, CanBeCopied, CanBePut, MachineCode}
 use Rattle.linked_calls.proofs.Below.{Data, element_bytes, elements_at, Fields, FixedArray, Form, frame_room, HasArray}
 use Rattle.linked_calls.proofs.Below.{is_some-with_number, IsBesides, IsOfCall, IsOnStack, IsReadable, LiesIn, meant}
 use Rattle.linked_calls.proofs.Below.{MutableArray, number_at, number_at_same, passed_in, place_before, place_behind}

@@ -61,11 +61,11 @@ pub use Rattle.linked_calls.specs.FunctionCode.{copy_out_code, down_code, enter_
 pub use Rattle.linked_calls.specs.FunctionCode.{leave_code, loads_code, meant_code, restore_code}
 unfoldable pub use Rattle.linked_calls.specs.FunctionCode.{function_words}
 pub use Rattle.linked_calls.specs.FunctionCode.{result_code, results_code, room_of, stores_code, until_equal}
-pub use Rattle.linked_calls.specs.FunctionCode.{rest_words, runs_code, up_code, wipe_code, zeros_code}
+pub use Rattle.linked_calls.specs.FunctionCode.{up_code, wipe_code, zeros_code}
 pub use Rattle.linked_calls.specs.Meant.{meant}
 pub use Rattle.linked_calls.specs.Sections.{argument_sections, argument_steps, around_steps, array_section}
 pub use Rattle.linked_calls.specs.Sections.{array_sections, array_steps, code_of}
-pub use Rattle.linked_calls.specs.Sections.{copied_steps, handed_steps, rest_steps, rounds_steps, runs_steps, taken_steps}
+pub use Rattle.linked_calls.specs.Sections.{blocks_steps, copied_steps, handed_steps, rounds_steps, taken_steps}
 pub use Rattle.linked_calls.specs.Sections.{enter_sections, frame_sections, leave_sections, section_steps}
 pub use Rattle.linked_calls.specs.Stretches.{AreBytes, AreData, AreZeroed, LiesIn}
 pub use Rattle.linked_calls.specs.Words.{CanBePut, HasResultSlot, HasWordArgument, IsLoadOf, IsArgumentPut, IsPutting}

@@ -275,10 +275,10 @@ module _ (z : Setting) (size bottom room : ℕ) (even : bottom % 16 ≡ 0) (whol
   partly_runs offsets holds fit false some =
       some_runs offsets (omega (arith, eqb-false room 0 some)) fit
 
-  whole_runs : (pace : Pace) (blank : Blank) → size ≤ room
-      → Runs z (frame_steps pace room) (zeroed_code pace room) (HasFrame bottom room) (IsReadied blank size bottom room)
-  whole_runs pace blank holds =
-      weaken_runs z (zeroed_runs pace z bottom room even whole below may)
+  whole_runs : (blank : Blank) → size ≤ room
+      → Runs z (frame_steps room) (zeroed_code room) (HasFrame bottom room) (IsReadied blank size bottom room)
+  whole_runs blank holds =
+      weaken_runs z (zeroed_runs z bottom room even whole below may)
       (λ s has. has)
       (λ s t has zeroed. record {
         stack = zeroed.stack;
@@ -290,15 +290,15 @@ module _ (z : Setting) (size bottom room : ℕ) (even : bottom % 16 ≡ 0) (whol
       })
 
   frame_by : (pace : Pace) (offsets : List ℕ) → size ≤ room → (few : Bool) → are_few pace room offsets ≡ few
-      → Runs z (if few then length (partly_code room offsets) else frame_steps pace room)
-      (if few then partly_code room offsets else zeroed_code pace room) (HasFrame bottom room)
+      → Runs z (if few then length (partly_code room offsets) else frame_steps room)
+      (if few then partly_code room offsets else zeroed_code room) (HasFrame bottom room)
       (IsReadied (Some offsets) size bottom room)
   frame_by pace offsets holds true few =
       partly_runs offsets holds (and_parts (nat_le (length offsets) (most_blanks pace)) (all_fit room offsets) few).1 (room == 0) refl
-  frame_by pace offsets holds false many = whole_runs pace (Some offsets) holds
+  frame_by pace offsets holds false many = whole_runs (Some offsets) holds
 
   pub frame_readied : (pace : Pace) (blank : Blank) → size ≤ room
       → Runs z (steps_for pace room blank) (frame_code pace room blank) (HasFrame bottom room)
       (IsReadied blank size bottom room)
-  frame_readied pace None holds = whole_runs pace None holds
+  frame_readied pace None holds = whole_runs None holds
   frame_readied pace (Some offsets) holds = frame_by pace offsets holds (are_few pace room offsets) refl

@@ -9,8 +9,8 @@ use Rattle.std.proofs.lemmas.Bool.Decides.{nat_tests}
 use Rattle.std.proofs.lemmas.List.{map-id}
 use Rattle.std.proofs.lemmas.Nat.{and_mask, and_or_apart, or_comm}
 use Rattle.codegen.proofs.program_logic_lemmas.Counted.{computes_runs, makes_on, Runs, Setting, weaken_runs}
-use Rattle.linked_calls.proofs.Below.{AreData, AreThere, argument_code, argument_offset, array_bytes, array_code}
-use Rattle.linked_calls.proofs.Below.{array_steps, ArrayIsHandedBack, ArrayIsTaken, CanBeCopied, copy_out_code, Data}
+use Rattle.linked_calls.proofs.Below.{argument_code, argument_offset, array_bytes, array_code}
+use Rattle.linked_calls.proofs.Below.{ArrayIsHandedBack, ArrayIsTaken, CanBeCopied, copy_out_code, Data}
 use Rattle.linked_calls.proofs.Below.{element_bytes, Fields, FixedArray, handed_steps, HasArray, Instr, IsArrayTaken}
 use Rattle.linked_calls.proofs.Below.{IsCopying, IsHandedBack, load_code, MachineCode, MutableArray, number_at, passed_in}
 use Rattle.linked_calls.proofs.Below.{number_or_zero, numbers_at, place_before, place_behind, Placed, Placed-left}
@@ -23,7 +23,7 @@ use Rattle.linked_calls.proofs.CopyNumbers.{CanCopy, HasCopied, Numbers}
 use Rattle.linked_calls.proofs.MovedBytes.{goes_as_it_is}
 use Rattle.linked_calls.proofs.Parts.{address_runs, load_runs}
 use Rattle.linked_calls.proofs.Pieces.{MayAt, placed}
-use Rattle.linked_calls.proofs.PlacedRuns.{does_here, here, RunsHere, then_here, weaken_here}
+use Rattle.linked_calls.proofs.PlacedRuns.{does_here, here, RunsHere, then_here}
 use Rattle.linked_calls.specs.Below.{Addi, Immediate, Word}
 use Rattle.linked_calls.specs.Copies.{CopierStands}
 use Rattle.linked_calls.specs.FunctionCode.{address_code, copier_of, places_in_code, places_out_code}

@@ -2,21 +2,21 @@
 -- whole round. What it becomes is the same.
 use Rattle.std.specs.Prelude.{◌⊎◌, bit_and, bit_or, is_some, nat_le}
 use Rattle.std.proofs.Common.{◌≡◌, ◌≢◌, ℕ, suc, ◌+◌, ◌*◌, ◌/◌, ◌%◌, ◌^◌, ◌<◌, ◌≤◌, ◌==◌, Bool, true, false}
-use Rattle.std.proofs.Common.{if◌then◌else◌, ◌&&◌, List, [], ◌∷◌, ◌++◌, length, map, inl, inr, Option, Some, None, refl, sym, ap}
+use Rattle.std.proofs.Common.{if◌then◌else◌, ◌&&◌, List, [], ◌∷◌, length, inl, inr, Option, Some, None, refl, sym, ap}
 use Rattle.std.proofs.Common.{◌∙◌, ap₂, subst, arith, length-append}
 use Rattle.std.proofs.lemmas.Bool.{and_parts, eqb-false, eqb-true, leb-true}
 use Rattle.std.proofs.lemmas.List.{map-id}
 use Rattle.codegen.proofs.program_logic_lemmas.Counted.{in_steps, Runs, Setting, weaken_runs}
 use Rattle.linked_calls.proofs.Alignment.{aligned_runs, TestsPointer, unaligned_runs}
-use Rattle.linked_calls.proofs.Below.{AreApart, AreBytes, AreData, array_code, array_steps, Boolean, ByteMap}
+use Rattle.linked_calls.proofs.Below.{AreApart, AreBytes, array_code, array_steps, Boolean, ByteMap}
 use Rattle.linked_calls.proofs.Below.{copied_code, copied_out_code, copied_steps, Data, element_bytes, elements_code, Instr}
-use Rattle.linked_calls.proofs.Below.{JumpRegister, Kind, numbers_at, OthersAsBefore, per_word, Placed, Placed-left}
+use Rattle.linked_calls.proofs.Below.{Kind, numbers_at, Placed, Placed-left}
 use Rattle.linked_calls.proofs.Below.{Placed-right, sum_of, Uint16, Uint32, Uint8, unwritten, with_numbers, with_result}
 use Rattle.linked_calls.proofs.Bytes.{numbers_same}
-use Rattle.linked_calls.proofs.CopyElements.{copied_value, element_code}
+use Rattle.linked_calls.proofs.CopyElements.{element_code}
 use Rattle.linked_calls.proofs.CopyLengths.{rest_few, rest_short}
 use Rattle.linked_calls.proofs.CopyNumbers.{BeginsCopy, CanCopy, copied, copy_runs, HasCopied, loop_runs, Numbers}
-use Rattle.linked_calls.proofs.CopyNumbers.{Copying, straight_runs_on}
+use Rattle.linked_calls.proofs.CopyNumbers.{straight_runs_on}
 use Rattle.linked_calls.proofs.MovedBytes.{AreMoved, goes_as_it_is, moved_then, numbers_moved, values_same}
 use Rattle.linked_calls.proofs.Parts.{bound_runs}
 use Rattle.linked_calls.proofs.Pieces.{placed}

@@ -1,14 +1,14 @@
 -- How a section's code hangs on where the copier stands: not at all in its length, and otherwise as far as addresses
 -- go.
 use Rattle.std.proofs.Common.{◌≡◌, ℕ, ◌+◌, ◌*◌, ◌/◌, ◌%◌, ◌^◌, Bool, true, false, if◌then◌else◌, List, [], ◌∷◌, ◌++◌, length}
-use Rattle.std.proofs.Common.{Option, Some, None, refl, ap, ap₂, ◌∙◌, arith, length-append}
+use Rattle.std.proofs.Common.{Option, Some, None, refl, ap, ◌∙◌, arith, length-append}
 use Rattle.linked_calls.proofs.Below.{argument_code, array_code, ArgumentIn, code_of, copied_code, copied_out_code}
-use Rattle.linked_calls.proofs.Below.{copy_out_code, element_bytes, elements_code, Fields, FixedArray, Form, Instr, Kind}
+use Rattle.linked_calls.proofs.Below.{copy_out_code, element_bytes, elements_code, Fields, Form, Instr, Kind}
 use Rattle.linked_calls.proofs.Below.{MutableArray, Section, SingleWord, Slot}
 use Rattle.linked_calls.proofs.CopyElements.{element_code}
 use Rattle.linked_calls.proofs.MovedBytes.{goes_as_it_is}
 use Rattle.linked_calls.specs.Below.{Jump}
-use Rattle.linked_calls.specs.FunctionCode.{bound_code, call_code, called_code, copier_of, goes_by_call, in_round}
+use Rattle.linked_calls.specs.FunctionCode.{bound_code, called_code, copier_of, goes_by_call, in_round}
 use Rattle.linked_calls.specs.FunctionCode.{places_in_code, places_out_code}
 use Rattle.linked_calls.specs.Sections.{CodeIsPlaced, section_code}
 use Rattle.linked_calls.specs.declared.pace.Pace.{Pace}

@@ -12,7 +12,7 @@ use Rattle.linked_calls.proofs.Below.{clear_registers_code, MachineCode, Data, F
 use Rattle.linked_calls.proofs.Below.{Instr, IsAt, IsImage, IsLeft, IsOfCall, IsSite, JumpRegister}
 use Rattle.linked_calls.proofs.Below.{kept_registers, LeadsWithin, number_at, Placed, Placed-left, Placed-right}
 use Rattle.linked_calls.proofs.Below.{leave_code, restore_code, result_code, results_code, results_in, ResultSlot, room_base}
-use Rattle.linked_calls.proofs.Below.{above_frame, body_words, kept_of, room_of, runs_steps}
+use Rattle.linked_calls.proofs.Below.{above_frame, body_words, kept_of, room_of, blocks_steps}
 use Rattle.linked_calls.proofs.Below.{saved_registers, scratch_registers, CallSite, State, unwritten, wipe_code}
 use Rattle.linked_calls.proofs.Below.{with_arrays, with_register, with_result, word_in}
 use Rattle.linked_calls.specs.Below.{IsResultSlot, result_end, slots_end}
@@ -43,7 +43,7 @@ abbrev first : Fields → Pace → List Instr
 first image pace = result_code image.returned ++ results_code image pace (length (end_code image pace)) 0 image.slots
 
 abbrev lasts : Fields → Pace → List Instr
-lasts image pace = restore_code image ++ wipe_code pace (room_of image) ++ clear_registers_code scratch_registers
+lasts image pace = restore_code image ++ wipe_code (room_of image) ++ clear_registers_code scratch_registers
 
 abbrev returning : List Instr
 returning = JumpRegister 0 1 0 ∷ []
@@ -193,7 +193,7 @@ module _ (image : Fields) {needs : Needs} {pace : Pace} (code : MachineCode) (si
   front_steps =
       length (result_code image.returned) + outputs_steps image pace site.pointers 0 image.slots +
       (length (address_code 5 (frame_room image)) + length (kept_of image) + 1 +
-      runs_steps pace (frame_room image + above_frame image) + 14)
+      blocks_steps (frame_room image + above_frame image) + 14)
 
   front_here : RunsHere z start front_steps (front image pace) Starts LeavesAll
   front_here =
@@ -205,7 +205,7 @@ module _ (image : Fields) {needs : Needs} {pace : Pace} (code : MachineCode) (si
       (lasts_run z (body_words image.words) base room (above_frame image) numbers.even numbers.whole
       numbers.above_whole (omega (arith, numbers.above_least)) numbers.above_most (omega arith)
       (λ x low high. inl ((omega arith, omega arith), omega arith))
-      (λ sp x low high above. inl ((omega arith, omega arith), above)) pace))
+      (λ sp x low high above. inl ((omega arith, omega arith), above))))
       (λ s t begins handed. record {
         stack = (same_beside (10 ∷ copying_registers) t.regs s.regs handed.others (2 ∷ []) refl).0 ∙ begins.stack;
         there = λ x low high.

@@ -1,24 +1,22 @@
 -- The code around a body is short where the function has a copier, so that each call reaches it.
 use Rattle.std.proofs.Common.{◌≡◌, ℕ, ◌+◌, ◌*◌, ◌^◌, ◌<◌, ◌≤◌, ◌==◌, ◌&&◌, Bool, true, false, nat_lt, if◌then◌else◌, List}
-use Rattle.std.specs.Prelude.{replicate}
-use Rattle.std.proofs.lemmas.List.{length-replicate}
-use Rattle.std.proofs.Common.{[], ◌∷◌, ◌++◌, length, Option, Some, None, refl, arith, length-append, cond}
+use Rattle.std.proofs.Common.{[], ◌∷◌, ◌++◌, length, Option, Some, None, refl, arith, length-append}
 use Rattle.std.proofs.lemmas.Bool.{and_parts, ltb-true}
 use Rattle.codegen.proofs.expression_code_lemmas.TermLengths.{constant_length, load_length, one_of, store_length}
 use Rattle.linked_calls.proofs.Below.{address_code, argument_code, argument_register, arguments_code, body_words, Boolean}
-use Rattle.linked_calls.proofs.Below.{clear_registers_code, copied_code, copy_out_code, Fields, FixedArray, Form, Instr, Kind}
-use Rattle.linked_calls.proofs.Below.{kept_of, leave_code, load_code, loads_code, meant_code, MutableArray, pointer_in_code}
-use Rattle.linked_calls.proofs.Below.{pointer_out_code, result_code, results_code, ResultSlot, room_of, saved_registers}
-use Rattle.linked_calls.proofs.Below.{scratch_registers, SingleWord, Slot, stacked_code, stacked_offset, Uint16, Uint32}
-use Rattle.linked_calls.proofs.Below.{added, rest_words, Uint8, until_equal, up_code, wipe_code, zeros_code}
+use Rattle.linked_calls.proofs.Below.{copied_code, copy_out_code, Fields, FixedArray, Form, Instr, Kind}
+use Rattle.linked_calls.proofs.Below.{kept_of, leave_code, load_code, meant_code, MutableArray}
+use Rattle.linked_calls.proofs.Below.{result_code, results_code, ResultSlot, room_of, saved_registers}
+use Rattle.linked_calls.proofs.Below.{SingleWord, Slot, stacked_offset, Uint16, Uint32}
+use Rattle.linked_calls.proofs.Below.{Uint8, until_equal, up_code, wipe_code}
 use Rattle.linked_calls.proofs.CopyElements.{element_code}
 use Rattle.linked_calls.proofs.CopyLengths.{called_short, copied_short}
 use Rattle.linked_calls.proofs.MovedBytes.{goes_as_it_is}
-use Rattle.linked_calls.proofs.Parts.{loads_length, stores_length}
+use Rattle.linked_calls.proofs.Parts.{loads_length}
 use Rattle.linked_calls.proofs.Rooms.{written_few}
-use Rattle.linked_calls.specs.FunctionCode.{array_code, called_code, copier_of, end_code, from_body, goes_by_call}
-use Rattle.linked_calls.specs.FunctionCode.{is_any_worth, is_near, is_skipped, needed_code, places_in_code}
-use Rattle.linked_calls.specs.FunctionCode.{places_out_code, restore_code, round_of, run_count, word_code}
+use Rattle.linked_calls.specs.FunctionCode.{array_code, called_code, copier_of, end_code, goes_by_call}
+use Rattle.linked_calls.specs.FunctionCode.{is_any_worth, is_near, is_skipped, needed_code}
+use Rattle.linked_calls.specs.FunctionCode.{round_of}
 use Rattle.linked_calls.specs.Below.{Addi, Immediate}
 use Rattle.linked_calls.specs.declared.pace.Pace.{Pace}
 use Rattle.linked_calls.specs.declared.pace.Pace.TheVariants.{Fast, Small}
@@ -123,29 +121,8 @@ results_short image pace behind i (slot ∷ slots) =
       length-append (copy_out_code image pace (length rest + behind) i slot slot.param.form) rest,
     )
 
--- so many words of zeros, and x2 moved
-up_short : (count : ℕ) → length (up_code count) ≡ count + 1
-up_short count =
-    let stores = stores_length 2 0 (replicate count 0) in
-    let zeros : length (replicate {A = ℕ} count 0) ≡ count = length-replicate count 0 in
-    let all = length-append (zeros_code count) (added 2 (4 * count) ∷ []) in
-    omega arith
-
-wiped_short : (pace : Pace) (room : ℕ) → length (wipe_code pace room) ≤ 18
-wiped_short Fast room =
-    omega (
-      arith,
-      one_of (rest_words Fast room == 0) [] (up_code (rest_words Fast room)) 8 (omega arith) (omega (arith, up_short (rest_words Fast room))),
-      one_of (run_count Fast room == 0) [] (until_equal 2 5 (up_code 8)) 10 (omega arith) (omega arith),
-      length-append {A = Instr},
-    )
-wiped_short Small room =
-    omega (
-      arith,
-      one_of (rest_words Small room == 0) [] (up_code (rest_words Small room)) 8 (omega arith) (omega (arith, up_short (rest_words Small room))),
-      one_of (run_count Small room == 0) [] (until_equal 2 5 (up_code 4)) 10 (omega arith) (omega arith),
-      length-append {A = Instr},
-    )
+wiped_short : (room : ℕ) → length (wipe_code room) ≤ 18
+wiped_short room = one_of (room == 0) [] (until_equal 2 5 up_code) 18 (omega arith) (omega arith)
 
 pub body_few : (words : List ℕ) → length (body_words words) ≤ length words
 body_few [] = omega arith
@@ -154,7 +131,7 @@ body_few (word ∷ next ∷ words) = let few = body_few (next ∷ words) in omeg
 
 pub end_short : (image : Fields) (pace : Pace) → length (end_code image pace) ≤ 64
 end_short image pace =
-    let wiped = wiped_short pace (room_of image) in
+    let wiped = wiped_short (room_of image) in
     let kept = written_few (body_words image.words) saved_registers in
     let loaded = loads_length 5 0 (kept_of image) in
     omega (arith, address_short 5, length-append {A = Instr})

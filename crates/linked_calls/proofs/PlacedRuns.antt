@@ -1,6 +1,6 @@
 -- Pieces that are run where they stand, since they hang on what stands elsewhere: as pieces that run anywhere, but for
 -- one address.
-use Rattle.std.proofs.Common.{◌≡◌, ℕ, ◌+◌, ◌*◌, ◌^◌, ◌<◌, List, [], ◌++◌, length, Option, Some, None, refl, sym, ap}
+use Rattle.std.proofs.Common.{◌≡◌, ℕ, ◌+◌, ◌*◌, List, [], ◌++◌, length, Option, Some, None, refl, sym, ap}
 use Rattle.std.proofs.Common.{subst, arith, length-append}
 use Rattle.codegen.proofs.program_logic_lemmas.Counted.{Runs, Setting, setting}
 use Rattle.codegen.proofs.program_logic_lemmas.Pieces.{ends_to, then_ends}

@@ -6,7 +6,7 @@ use Rattle.std.proofs.lemmas.Bool.{lt-ltb}
 use Rattle.codegen.proofs.program_logic_lemmas.Counted.{computes_runs, in_steps, makes_then, Runs, Setting}
 use Rattle.codegen.proofs.program_logic_lemmas.Counted.{then_runs}
 use Rattle.linked_calls.proofs.Below.{added, address_code, AreCleared, AreData, AreZeroed, ByteMap, clear_registers_code}
-use Rattle.linked_calls.proofs.Below.{Data, Instr, IsWiped, loads_code, near_address, runs_steps}
+use Rattle.linked_calls.proofs.Below.{Data, Instr, IsWiped, loads_code, near_address, blocks_steps}
 use Rattle.linked_calls.proofs.Below.{saved_registers, scratch_registers, sign_extended, sum_of, unwritten, wipe_code}
 use Rattle.linked_calls.proofs.Below.{with_register, with_result, written_of}
 use Rattle.linked_calls.proofs.Between.{AreLeft, AreSaved}
@@ -19,7 +19,6 @@ use Rattle.linked_calls.proofs.Parts.{address_runs, loads_length, loads_runs, Ma
 use Rattle.linked_calls.proofs.SameRegisters.{AreSame, IsNone, all_differ, first_none, none_of, same_beside}
 use Rattle.linked_calls.proofs.SameRegisters.{still_same, then_none}
 use Rattle.linked_calls.proofs.Zeros.{MayZero, up_runs}
-use Rattle.linked_calls.specs.declared.pace.Pace.{Pace}
 
 -- ra, gp, tp and a0
 abbrev pub others_still : List ℕ
@@ -106,11 +105,11 @@ module _ (z : Setting) (words : List ℕ) (frame room above : ℕ) (even : frame
     restored_bytes s = loads_bytes 0 (frame + room) kept (located s)
 
     -- the room is wiped as well
-    wiped_runs : (pace : Pace) → Runs z (code_steps + runs_steps pace (room + above)) (code ++ wipe_code pace (room + above)) BeginsLast
+    wiped_runs : Runs z (code_steps + blocks_steps (room + above)) (code ++ wipe_code (room + above)) BeginsLast
         (λ s t. IsWiped frame (room + above) (restored s) t)
-    wiped_runs pace =
+    wiped_runs =
         makes_then z {P = BeginsLast} {f = restored} restored_runs
-        (up_runs pace z frame (room + above) even (omega arith) below stores)
+        (up_runs z frame (room + above) even (omega arith) below stores)
         (λ s begins. record {
           stack = restored_still s 2 (λ e. omega arith) (none_of saved_registers 2 refl) ∙ begins.stack;
           top = restored_top s begins.stack;
@@ -140,11 +139,11 @@ module _ (z : Setting) (words : List ℕ) (frame room above : ℕ) (even : frame
         (λ q none. unwritten s.regs 5 (sum_of room (s.regs 2)) q none.0) saved_registers refl))
         left))
 
-    pub lasts_run : (pace : Pace) → Runs z (code_steps + runs_steps pace (room + above) + 14)
-        (code ++ wipe_code pace (room + above) ++ clear_registers_code scratch_registers) BeginsLast Lasts
-    lasts_run pace =
+    pub lasts_run : Runs z (code_steps + blocks_steps (room + above) + 14)
+        (code ++ wipe_code (room + above) ++ clear_registers_code scratch_registers) BeginsLast Lasts
+    lasts_run =
         then_runs z {P = BeginsLast} {P' = λ s. Unit {0}} {R' = AreCleared scratch_registers} {S = Lasts}
-        (wiped_runs pace)
+        wiped_runs
         (clear_runs z)
         (λ s t begins wiped. tt)
         (λ s t u begins wiped clears.

@@ -8,14 +8,14 @@ use Rattle.linked_calls.proofs.Below.{argument_sections, arguments_code, array_s
 use Rattle.linked_calls.proofs.Below.{body_words, CallersStack, ClearedFrame, ClearedRegisters, code_of}
 use Rattle.linked_calls.proofs.Below.{constant_code, copy_out_code, down_code, enter_code, enter_sections, Fields, Form}
 use Rattle.linked_calls.specs.FunctionCode.{are_few, blank_code, blanks_code, frame_code, lowered_code, partly_code}
-use Rattle.linked_calls.specs.FunctionCode.{argument_code, copier_code, copier_end, copier_of, end_code, from_body}
+use Rattle.linked_calls.specs.FunctionCode.{argument_code, copier_end, copier_of, end_code, from_body}
 use Rattle.linked_calls.specs.FunctionCode.{is_skipped, zeroed_code}
 use Rattle.linked_calls.specs.Sections.{argument_section, copier_sections, partly_sections, section_code, zeroed_sections}
 use Rattle.linked_calls.specs.declared.section.Section.TheVariants.{ArgumentIn, ArrayOut, BlankWord, Copier}
 use Rattle.linked_calls.specs.declared.section.Section.TheVariants.{LoweredStack}
 use Rattle.linked_calls.proofs.Below.{frame_room, frame_sections, FrameBase, FrameTop, function_words, Instr}
 use Rattle.linked_calls.proofs.Below.{leave_code, leave_sections, MutableArray, Register, RestoredRegisters}
-use Rattle.linked_calls.proofs.Below.{results_code, Return, runs_code, Section, Slot, stack_register, Sub}
+use Rattle.linked_calls.proofs.Below.{results_code, Return, Section, Slot, stack_register, Sub, until_equal}
 use Rattle.linked_calls.proofs.Below.{above_frame, added, address_code, clear_registers_code, JumpRegister, kept_of, loads_code}
 use Rattle.linked_calls.proofs.Below.{result_code, room_of, scratch_registers, wipe_code, WipedRoom}
 use Rattle.linked_calls.specs.Below.{word_of}
@@ -50,13 +50,13 @@ base = Register Sub 5 stack_register 5
 
 zeroed_code_of : (image : Fields) (pace : Pace) (behind : ℕ) (empty : Bool)
     → code_of image pace behind (if empty then [] else FrameBase ∷ ClearedFrame ∷ [])
-    ≡ (if empty then [] else constant_code 5 (frame_room image) ++ base ∷ runs_code pace down_code (frame_room image))
+    ≡ (if empty then [] else constant_code 5 (frame_room image) ++ base ∷ until_equal stack_register 5 down_code)
 zeroed_code_of image pace behind true = refl
 zeroed_code_of image pace behind false =
     let number = constant_code 5 (frame_room image) in
-    let runs = runs_code pace down_code (frame_room image) in
-    append_assoc number (base ∷ []) (runs ++ [])
-    ∙ ap (λ (xs : List Instr). number ++ base ∷ xs) (append-nil runs)
+    let blocks = until_equal stack_register 5 down_code in
+    append_assoc number (base ∷ []) (blocks ++ [])
+    ∙ ap (λ (xs : List Instr). number ++ base ∷ xs) (append-nil blocks)
 
 blanks_code_of : (image : Fields) (pace : Pace) (behind : ℕ) (offsets : List ℕ)
     → code_of image pace behind (map BlankWord offsets) ≡ blanks_code offsets
@@ -74,7 +74,7 @@ partly_code_of image pace behind offsets false =
 frame_code_by : (image : Fields) (pace : Pace) (behind : ℕ) (offsets : List ℕ) (few : Bool)
     → code_of image pace behind
     (if few then partly_sections (frame_room image) offsets else zeroed_sections (frame_room image))
-    ≡ (if few then partly_code (frame_room image) offsets else zeroed_code pace (frame_room image))
+    ≡ (if few then partly_code (frame_room image) offsets else zeroed_code (frame_room image))
 frame_code_by image pace behind offsets true = partly_code_of image pace behind offsets (frame_room image == 0)
 frame_code_by image pace behind offsets false = zeroed_code_of image pace behind (frame_room image == 0)
 
@@ -139,7 +139,7 @@ tail_grouped a l y w k j = simp append_assoc
 tail_code_of : (image : Fields) (pace : Pace) → code_of image pace 0 tail ≡ end_code image pace
 tail_code_of image pace =
     tail_grouped (address_code 5 (frame_room image)) (loads_code 5 0 (kept_of image)) (added 5 (above_frame image) ∷ [])
-    (wipe_code pace (room_of image)) (clear_registers_code scratch_registers) (JumpRegister 0 1 0 ∷ [])
+    (wipe_code (room_of image)) (clear_registers_code scratch_registers) (JumpRegister 0 1 0 ∷ [])
 
 leave_grouped : (r rs e : List Instr) → r ++ (rs ++ e) ≡ r ++ rs ++ e
 leave_grouped r rs e = simp append_assoc

@@ -7,7 +7,7 @@ use Rattle.linked_calls.proofs.Below.{above_code, address_code, argument_section
 use Rattle.linked_calls.proofs.Below.{handed_steps, CallersStack, ClearedFrame, ClearedRegisters}
 use Rattle.linked_calls.proofs.Below.{constant_code, Fields, FixedArray, Form, frame_room, frame_sections, frame_steps}
 use Rattle.linked_calls.proofs.Below.{FrameBase, FrameTop, leave_sections, MutableArray, Register, RestoredRegisters}
-use Rattle.linked_calls.proofs.Below.{result_code, ResultOut, Return, room_of, runs_steps, Section, section_steps, SingleWord, Slot}
+use Rattle.linked_calls.proofs.Below.{result_code, ResultOut, Return, room_of, blocks_steps, Section, section_steps, SingleWord, Slot}
 use Rattle.linked_calls.proofs.Below.{Sub, WipedRoom}
 use Rattle.linked_calls.specs.declared.section.Section.TheVariants.{RoomAboveFrame, SavedRegisters, ArgumentRegisters}
 use Rattle.linked_calls.proofs.Below.{above_frame, kept_of, needed_of}
@@ -22,9 +22,9 @@ use Rattle.linked_calls.specs.declared.pace.Pace.{Pace}
 
 -- of a frame in which the words that have to be are zeroed
 abbrev pub steps_for : Pace → ℕ → Blank → ℕ
-steps_for pace room None = frame_steps pace room
+steps_for pace room None = frame_steps room
 steps_for pace room (Some offsets) =
-    if are_few pace room offsets then length (partly_code room offsets) else frame_steps pace room
+    if are_few pace room offsets then length (partly_code room offsets) else frame_steps room
 
 module _ (image : Fields) (pace : Pace) (pointers : ℕ → ℕ) where
   abbrev steps_of : List Section → ℕ
@@ -56,12 +56,12 @@ module _ (image : Fields) (pace : Pace) (pointers : ℕ → ℕ) where
   -- Before the body.
 
   zeroed_steps_by : (b : Bool) → steps_of (if b then [] else FrameBase ∷ ClearedFrame ∷ [])
-      ≡ (if b then 0 else length (constant_code 5 room) + 1 + runs_steps pace room)
+      ≡ (if b then 0 else length (constant_code 5 room) + 1 + blocks_steps room)
   zeroed_steps_by true = refl
   zeroed_steps_by false =
       let e = length-append (constant_code 5 room) (Register Sub 5 2 5 ∷ []) in
-      let steps : 0 + length (constant_code 5 room ++ Register Sub 5 2 5 ∷ []) + runs_steps pace room
-      ≡ length (constant_code 5 room) + 1 + runs_steps pace room = omega arith in
+      let steps : 0 + length (constant_code 5 room ++ Register Sub 5 2 5 ∷ []) + blocks_steps room
+      ≡ length (constant_code 5 room) + 1 + blocks_steps room = omega arith in
       steps
 
   blanks_steps : (offsets : List ℕ) → steps_of (map BlankWord offsets) ≡ length (blanks_code offsets)
@@ -82,7 +82,7 @@ module _ (image : Fields) (pace : Pace) (pointers : ℕ → ℕ) where
 
   frame_steps_by : (offsets : List ℕ) (few : Bool)
       → steps_of (if few then partly_sections room offsets else zeroed_sections room)
-      ≡ (if few then length (partly_code room offsets) else frame_steps pace room)
+      ≡ (if few then length (partly_code room offsets) else frame_steps room)
   frame_steps_by offsets true = partly_steps offsets (room == 0)
   frame_steps_by offsets false = zeroed_steps_by (room == 0)
 
@@ -146,7 +146,7 @@ module _ (image : Fields) (pace : Pace) (pointers : ℕ → ℕ) where
 
   -- the registers restored and cleared, and the room wiped
   abbrev pub last_steps : ℕ
-  last_steps = length (address_code 5 room) + runs_steps pace (room_of image)
+  last_steps = length (address_code 5 room) + blocks_steps (room_of image)
       + (length (kept_of image) + 16)
 
   pub leave_steps_are : leave_steps image pace pointers ≡ length (result_code image.returned) +

@@ -1,20 +1,19 @@
 -- A call of code that other code of the function shares: a jump there that leaves in x30 where it goes back to, and a jump
 -- back at its end.
-use Rattle.std.proofs.Common.{◌≡◌, ◌≢◌, ℕ, ◌+◌, ◌*◌, ◌%◌, ◌^◌, ◌<◌, Bool, true, false, cond, nat_eq, List, [], ◌∷◌, ◌++◌}
+use Rattle.std.proofs.Common.{◌≡◌, ℕ, ◌+◌, ◌*◌, ◌%◌, ◌^◌, ◌<◌, Bool, true, false, cond, List, [], ◌∷◌, ◌++◌}
 use Rattle.std.proofs.Common.{length, None, refl, sym, ap, ap₂, ◌∙◌, subst, arith}
 use Rattle.std.proofs.Math.Path.{fun_ext}
 use Rattle.std.proofs.lemmas.Bool.Decides.{nat_tests}
 use Rattle.codegen.proofs.program_logic_lemmas.Counted.{Runs, Setting, setting}
 use Rattle.codegen.proofs.program_logic_lemmas.Jumps.{shown_at}
 use Rattle.codegen.proofs.program_logic_lemmas.Pieces.{ends_to, step_ends, then_ends}
-use Rattle.codegen.proofs.program_logic_lemmas.PlacedLaws.{Placed-below, Placed-left, Placed-right, stands}
+use Rattle.codegen.proofs.program_logic_lemmas.PlacedLaws.{Placed-left, Placed-right, stands}
 use Rattle.codegen.specs.program_logic.MachineSteps.{exactly}
 use Rattle.codegen.specs.program_logic.Pieces.{always, both, Ends}
 use Rattle.codegen.specs.program_logic.StraightCode.{contents_of}
 use Rattle.linked_calls.proofs.Below.{ByteMap, Data, Instr, JumpRegister, near_address, next, Placed, register_target}
 use Rattle.linked_calls.proofs.Below.{sign_extended, State, sum_of, with_link, with_register, with_result}
 use Rattle.linked_calls.proofs.PlacedRuns.{RunsHere}
-use Rattle.linked_calls.specs.Below.{Jump}
 use Rattle.linked_calls.specs.FunctionCode.{call_code}
 use Rattle.rv_machine.proofs.InstructionSteps.{jump_leads, jump_register_leads, with_link-bytes, with_link-pc, with_link-regs}
 use Rattle.rv_machine.specs.Effects.{jump_target}

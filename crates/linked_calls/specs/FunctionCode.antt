@@ -20,7 +20,7 @@ use Rattle.hepurita.specs.Blank.{Blank}
 use Rattle.hepurita.specs.Needs.{Needs}
 use Rattle.linked_calls.specs.Convention.{link_register, stack_register, saved_registers, argument_registers}
 use Rattle.linked_calls.specs.Convention.{result_register, scratch_registers, whole_blocks}
-use Rattle.linked_calls.specs.Paces.{few_elements, least_for_call, most_blanks, per_round, run_words, times}
+use Rattle.linked_calls.specs.Paces.{few_elements, least_for_call, most_blanks, per_round, times}
 use Rattle.linked_calls.specs.Written.{written_of}
 use Rattle.language.specs.Operators.{width_of}
 use Rattle.rv_code.specs.declared.instructions.Instr.TheVariants.{Load, Store}
@@ -98,30 +98,17 @@ until_equal one other body = body ++ Branch Bne one other (2 ^ 12 - 2 * length b
 abbrev pub added : ℕ → ℕ → Instr
 added r n = Immediate Addi r r n
 
--- so many words of zeros from x2 on
-abbrev pub zeros_code : ℕ → List Instr
-zeros_code count = stores_code stack_register 0 (replicate count 0)
+-- 16 bytes of zeros from x2 on
+abbrev pub zeros_code : List Instr
+zeros_code = stores_code stack_register 0 (replicate 4 0)
 
--- x2 goes down by so many words, which become zeros
-abbrev pub down_code : ℕ → List Instr
-down_code count = added stack_register (4096 - 4 * count) ∷ zeros_code count
+-- x2 goes down by 16 bytes, which become zeros
+abbrev pub down_code : List Instr
+down_code = added stack_register (4096 - 16) ∷ zeros_code
 
--- so many words from x2 on become zeros, and x2 goes up by them
-abbrev pub up_code : ℕ → List Instr
-up_code count = zeros_code count ++ added stack_register (4 * count) ∷ []
-
--- how many runs a room has, and the words beside them
-abbrev pub run_count : Pace → ℕ → ℕ
-run_count pace room = room / (4 * run_words pace)
-
-abbrev pub rest_words : Pace → ℕ → ℕ
-rest_words pace room = room % (4 * run_words pace) / 4
-
--- code for a number of words, over a room up or down to x5: once for the words beside the runs, and once for each run
-abbrev pub runs_code : Pace → (ℕ → List Instr) → ℕ → List Instr
-runs_code pace code room =
-    (if rest_words pace room == 0 then [] else code (rest_words pace room))
-    ++ (if run_count pace room == 0 then [] else until_equal stack_register 5 (code (run_words pace)))
+-- 16 bytes from x2 on become zeros, and x2 goes up by them
+abbrev pub up_code : List Instr
+up_code = zeros_code ++ added stack_register 16 ∷ []
 
 -- the address of an offset from x2 on
 abbrev pub address_code : ℕ → ℕ → List Instr
@@ -141,11 +128,11 @@ entry_code image =
     above_code (above_frame image) ++ stores_code stack_register 0 (kept_of image)
     ++ stores_code stack_register (first_argument image) (needed_of image)
 
--- a frame, zeroed run by run downward, so that nothing live ever lies below x2
-abbrev pub zeroed_code : Pace → ℕ → List Instr
-zeroed_code pace room =
+-- a frame, zeroed block by block downward, so that nothing live ever lies below x2
+abbrev pub zeroed_code : ℕ → List Instr
+zeroed_code room =
     if room == 0 then [] else
-    constant_code 5 room ++ Register Sub 5 stack_register 5 ∷ runs_code pace down_code room
+    constant_code 5 room ++ Register Sub 5 stack_register 5 ∷ until_equal stack_register 5 down_code
 
 -- one store zeroes the word at an offset, in a frame of so many bytes
 abbrev pub fits_frame : ℕ → ℕ → Bool
@@ -179,9 +166,9 @@ partly_code room offsets = if room == 0 then [] else lowered_code room ++ blanks
 
 -- a frame in which the words that have to be are zeros
 abbrev pub frame_code : Pace → ℕ → Blank → List Instr
-frame_code pace room None = zeroed_code pace room
+frame_code pace room None = zeroed_code room
 frame_code pace room (Some offsets) =
-    if are_few pace room offsets then partly_code room offsets else zeroed_code pace room
+    if are_few pace room offsets then partly_code room offsets else zeroed_code room
 
 -- what a raw word means by its kind: a bool is whether it is not 0, a number its low bits
 abbrev pub meant_code : ℕ → Kind → List Instr
@@ -459,9 +446,9 @@ abbrev pub restore_code : Fields → List Instr
 restore_code image =
     address_code 5 (frame_room image) ++ loads_code 5 0 (kept_of image) ++ added 5 (above_frame image) ∷ []
 
--- all the room, zeroed run by run upward
-abbrev pub wipe_code : Pace → ℕ → List Instr
-wipe_code pace room = runs_code pace up_code room
+-- all the room, zeroed block by block upward
+abbrev pub wipe_code : ℕ → List Instr
+wipe_code room = if room == 0 then [] else until_equal stack_register 5 up_code
 
 -- registers become 0
 abbrev pub clear_registers_code : List ℕ → List Instr
@@ -470,7 +457,7 @@ clear_registers_code rs = map (λ r. Immediate Addi r 0 0) rs
 -- behind the arrays
 abbrev pub end_code : Fields → Pace → List Instr
 end_code image pace =
-    restore_code image ++ wipe_code pace (room_of image) ++ clear_registers_code scratch_registers
+    restore_code image ++ wipe_code (room_of image) ++ clear_registers_code scratch_registers
     ++ JumpRegister 0 link_register 0 ∷ []
 
 -- behind the body, and up to the copier

@@ -6,12 +6,6 @@ use Rattle.linked_calls.specs.declared.pace.Pace.TheVariants.{Fast, Small}
 use Rattle.linked_calls.specs.declared.round.Round.{Round}
 use Rattle.linked_calls.specs.declared.round.Round.TheVariants.{Four, One, Two}
 
--- the words that a run zeroes: those of whole blocks of 16 bytes, so that x2 stays a multiple of 16. A room is a whole
--- number of short runs
-abbrev pub run_words : Pace → ℕ
-run_words Fast = 8
-run_words Small = 4
-
 -- so many words of a frame, and no more, are zeroed one by one; where they are more, all of it is. At a small pace they
 -- are as many as make no more code than a loop
 abbrev pub most_blanks : Pace → ℕ

@@ -7,15 +7,15 @@ use Rattle.linked_calls.specs.Below.{Kind, MutableArray, Register, SingleWord, S
 use Rattle.linked_calls.specs.Convention.{link_register, stack_register}
 use Rattle.linked_calls.specs.Convention.{scratch_registers}
 use Rattle.linked_calls.specs.FunctionCode.{above_frame, bound_code, frame_room, room_of, stores_code, loads_code}
-use Rattle.linked_calls.specs.Paces.{few_elements, per_round, run_words, times}
+use Rattle.linked_calls.specs.Paces.{few_elements, per_round, times}
 use Rattle.hepurita.specs.Blank.{Blank}
 use Rattle.hepurita.specs.Needs.{Needs}
 use Rattle.linked_calls.specs.FunctionCode.{above_code, added, address_code, are_few, argument_code, blank_code}
 use Rattle.linked_calls.specs.FunctionCode.{clear_registers_code, copied_in_code, copied_out_code, copier_code}
 use Rattle.linked_calls.specs.FunctionCode.{copier_of, copy_out_code, down_code, elements_code, first_argument}
 use Rattle.linked_calls.specs.FunctionCode.{goes_by_call, goes_in_as_it_is, in_round, is_skipped, kept_of}
-use Rattle.linked_calls.specs.FunctionCode.{lowered_code, needed_of, places_in_code, places_out_code, rest_words}
-use Rattle.linked_calls.specs.FunctionCode.{result_code, run_count, runs_code, wipe_code, word_code}
+use Rattle.linked_calls.specs.FunctionCode.{lowered_code, needed_of, places_in_code, places_out_code}
+use Rattle.linked_calls.specs.FunctionCode.{result_code, until_equal, wipe_code, word_code}
 use Rattle.linked_calls.specs.declared.pace.Pace.{Pace}
 use Rattle.linked_calls.specs.declared.round.Round.{Round}
 use Rattle.linked_calls.specs.declared.section.Section.{Section}
@@ -83,7 +83,7 @@ section_code image pace behind RoomAboveFrame = above_code (above_frame image)
 section_code image pace behind SavedRegisters = stores_code stack_register 0 (kept_of image)
 section_code image pace behind ArgumentRegisters = stores_code stack_register (first_argument image) (needed_of image)
 section_code image pace behind FrameBase = constant_code 5 (frame_room image) ++ Register Sub 5 stack_register 5 ∷ []
-section_code image pace behind ClearedFrame = runs_code pace down_code (frame_room image)
+section_code image pace behind ClearedFrame = until_equal stack_register 5 down_code
 section_code image pace behind LoweredStack = lowered_code (frame_room image)
 section_code image pace behind (BlankWord offset) = blank_code offset
 section_code image pace behind (ArgumentIn i slot) = argument_code image pace behind i slot slot.param.form
@@ -92,7 +92,7 @@ section_code image pace behind (ArrayOut i slot) = copy_out_code image pace behi
 section_code image pace behind FrameTop = address_code 5 (frame_room image)
 section_code image pace behind RestoredRegisters = loads_code 5 0 (kept_of image)
 section_code image pace behind CallersStack = added 5 (above_frame image) ∷ []
-section_code image pace behind WipedRoom = wipe_code pace (room_of image)
+section_code image pace behind WipedRoom = wipe_code (room_of image)
 section_code image pace behind ClearedRegisters = clear_registers_code scratch_registers
 section_code image pace behind Return = JumpRegister 0 link_register 0 ∷ []
 section_code image pace behind (Copier round) = copier_code round
@@ -119,16 +119,12 @@ pub record IsCodePlaced (image : Fields) (pace : Pace) (m n : ℕ) : Type 0 wher
 abbrev pub CodeIsPlaced : Type 0
 CodeIsPlaced = (image : Fields) (pace : Pace) (m n : ℕ) → IsCodePlaced image pace m n
 
--- Steps. A loop makes its steps once for each run of words, or for each round of elements. Those of the copier hang on
+-- Steps. A loop makes its steps once for each block, or for each round of elements. Those of the copier hang on
 -- whether the array's pointer is a multiple of 4: `pointers` is where each argument points.
 
--- so many instructions, and one that moves x2
-abbrev pub rest_steps : ℕ → ℕ
-rest_steps count = if count == 0 then 0 else count + 1
-
--- the words beside the runs, and for each run its stores, x2 moved and the branch
-abbrev pub runs_steps : Pace → ℕ → ℕ
-runs_steps pace room = rest_steps (rest_words pace room) + (run_words pace + 2) * run_count pace room
+-- for each block of 16 bytes its stores, x2 moved and the branch
+abbrev pub blocks_steps : ℕ → ℕ
+blocks_steps room = 6 * (room / 16)
 
 -- the elements, x5 and x6 moved and the branch in each round, and the elements that are left
 -- so many rounds of a loop
@@ -186,10 +182,10 @@ handed_steps image pace i slot pointer =
     + array_steps pace (copier_of image pace) (copied_out_code kind) true kind slot.param.length pointer
 
 abbrev pub section_steps : Fields → Pace → (ℕ → ℕ) → Section → ℕ
-section_steps image pace pointers ClearedFrame = runs_steps pace (frame_room image)
+section_steps image pace pointers ClearedFrame = blocks_steps (frame_room image)
 section_steps image pace pointers (ArgumentIn i slot) = argument_steps image pace pointers i slot slot.param.form
 section_steps image pace pointers (ArrayOut i slot) = handed_steps image pace i slot (pointers i)
-section_steps image pace pointers WipedRoom = runs_steps pace (room_of image)
+section_steps image pace pointers WipedRoom = blocks_steps (room_of image)
 section_steps image pace pointers section = length (section_code image pace 0 section)
 
 -- of all that stands around the body

@@ -2,10 +2,9 @@
 use Rattle.std.specs.Prelude.{◌≡◌, ◌≢◌, ℕ, ◌+◌, ◌%◌, ◌^◌, ◌<◌, ◌≤◌, ◌==◌, length, Option, Some, None, if◌then◌else◌}
 use Rattle.linked_calls.specs.Below.{MachineCode, constant_code, Div, Event, Load, Mul, Store}
 use Rattle.linked_calls.specs.FunctionCode.{zeroed_code, wipe_code}
-use Rattle.linked_calls.specs.Sections.{runs_steps}
+use Rattle.linked_calls.specs.Sections.{blocks_steps}
 use Rattle.linked_calls.specs.Does.{Data, Does, AreThere}
 use Rattle.linked_calls.specs.Stretches.{AreData, AreZeroed, LiesIn}
-use Rattle.linked_calls.specs.declared.pace.Pace.{Pace}
 
 -- stores that lie in a stretch and not below the stack pointer, and no other access
 abbrev pub IsStoreIn : ℕ → ℕ → ℕ → Option Event → Type 0
@@ -26,18 +25,18 @@ pub record IsZeroFrame (bottom room : ℕ) (s t : Data) : Type 0 where
   pub zeroed : AreZeroed bottom (bottom + room) s.bytes t.bytes
   pub others : (q : ℕ) → q ≢ 2 → q ≢ 5 → t.regs q ≡ s.regs q
 
-abbrev pub frame_steps : Pace → ℕ → ℕ
-frame_steps pace room = if room == 0 then 0 else length (constant_code 5 room) + 1 + runs_steps pace room
+abbrev pub frame_steps : ℕ → ℕ
+frame_steps room = if room == 0 then 0 else length (constant_code 5 room) + 1 + blocks_steps room
 
 -- the code that zeroes a frame does so
 abbrev pub FrameIsZeroed : Type 0
 FrameIsZeroed =
-    (code : MachineCode) (pace : Pace) (start bottom room : ℕ)
-    → AreThere code start (zeroed_code pace room)
+    (code : MachineCode) (start bottom room : ℕ)
+    → AreThere code start (zeroed_code room)
     → bottom % 16 ≡ 0
     → room % 16 ≡ 0
     → bottom + room < 2 ^ 32
-    → Does code start (zeroed_code pace room) (frame_steps pace room)
+    → Does code start (zeroed_code room) (frame_steps room)
     (IsStoreIn bottom (bottom + room)) (HasFrame bottom room) (IsZeroFrame bottom room)
 
 -- x2 is where a room of so many bytes begins, and x5 where it ends
@@ -55,10 +54,10 @@ pub record IsWiped (bottom room : ℕ) (s t : Data) : Type 0 where
 -- the code that wipes a room does so
 abbrev pub RoomIsWiped : Type 0
 RoomIsWiped =
-    (code : MachineCode) (pace : Pace) (start bottom room : ℕ)
-    → AreThere code start (wipe_code pace room)
+    (code : MachineCode) (start bottom room : ℕ)
+    → AreThere code start (wipe_code room)
     → bottom % 16 ≡ 0
     → room % 16 ≡ 0
     → bottom + room < 2 ^ 32
-    → Does code start (wipe_code pace room) (runs_steps pace room)
+    → Does code start (wipe_code room) (blocks_steps room)
     (IsStoreIn bottom (bottom + room)) (HasRoomBounds bottom room) (IsWiped bottom room)

@@ -3,8 +3,8 @@
 /// What the code around a body is made for. What a call does is the same for each, but for how many steps it makes.
 #[derive(Clone, Copy, Debug, PartialEq, Eq)]
 pub enum Pace {
-    /// Few steps: loops zero eight words a run, and arrays share a loop that copies up to four words a round.
+    /// Few steps: arrays go by words, which one copier copies for all of them.
     Fast,
-    /// Few words: loops zero four words a run, and copy one element a round.
+    /// Few words: each array has a loop of its own, which copies one element a round.
     Small,
 }

@@ -1,5 +1,5 @@
 -- The call of the copier for an array.
-use Rattle.std.proofs.Common.{◌≡◌, ℕ, ◌+◌, ◌-◌, ◌*◌, ◌/◌, ◌%◌, List, ◌∷◌, ◌++◌, length, refl, ap, ap₂, ◌∙◌, arith, append_assoc}
+use Rattle.std.proofs.Common.{◌≡◌, ℕ, ◌+◌, ◌-◌, ◌*◌, ◌/◌, ◌%◌, List, ◌∷◌, ◌++◌, length, ap, ap₂, ◌∙◌, arith, append_assoc}
 use Rattle.functions.specs.Below.{bound_code, call_code, called_code, copied_out_code, element_bytes, elements_code}
 use Rattle.functions.specs.Below.{in_round, Instr, Kind}
 use Rattle.language.specs.declared.signature.Kind.TheVariants.{Boolean}

@@ -1,5 +1,5 @@
 -- The words of a function, section by section.
-use Rattle.std.proofs.Common.{◌≡◌, ℕ, ◌+◌, ◌%◌, ◌^◌, List, [], ◌++◌, length, map, Option, sym, ap, ap₂, ◌∙◌, arith}
+use Rattle.std.proofs.Common.{◌≡◌, ℕ, ◌+◌, ◌%◌, ◌^◌, List, [], ◌++◌, length, map, Option, ap, ap₂, ◌∙◌, arith}
 use Rattle.functions.specs.Below.{body_words, code_of, copier_of, copier_sections, enter_sections, Fields, function_words}
 use Rattle.functions.specs.Below.{Instr, leave_sections, word_of}
 use Rattle.hepurita.specs.Needs.{Needs}

@@ -239,7 +239,7 @@ fn push_code(
         Section::SavedRegisters => saved_registers(alloc, code, image),
         Section::ArgumentRegisters => argument_registers(code, image, around.above),
         Section::FrameBase => frame_base(code, frame_room(image)),
-        Section::ClearedFrame => cleared_frame(alloc, code, around.pace, frame_room(image)),
+        Section::ClearedFrame => cleared_frame(alloc, code),
         Section::LoweredStack => lowered_stack(code, frame_room(image)),
         Section::BlankWord(offset) => blank_word(code, offset),
         Section::ArgumentIn(index, slot) => {
@@ -250,7 +250,7 @@ fn push_code(
         Section::FrameTop => frame_top(code, frame_room(image)),
         Section::RestoredRegisters => restored_registers(alloc, code, image),
         Section::CallersStack => callers_stack(code, image, around.above),
-        Section::WipedRoom => wiped_room(alloc, code, around.pace, room_of(image)),
+        Section::WipedRoom => wiped_room(alloc, code, room_of(image)),
         Section::ClearedRegisters => clear_registers(code, &registers::scratch()),
         Section::Return => go_back(code),
         Section::Copier(round) => copier(alloc, code, round),

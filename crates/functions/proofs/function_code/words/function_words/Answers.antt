@@ -1,4 +1,4 @@
-use Rattle.std.proofs.Common.{◌≡◌, ◌+◌, ◌%◌, ◌^◌, ◌++◌, ℕ, List, length, sym, ap, ◌∙◌}
+use Rattle.std.proofs.Common.{◌+◌, ◌%◌, ◌^◌, ◌++◌, ℕ, List, length, sym, ap, ◌∙◌}
 use Rattle.functions.specs.Below.{body_words, code_of}
 use Rattle.hepurita.specs.Needs.{needs_as}
 use Rattle.linked_calls.specs.declared.section.Section.{Section}

@@ -1,5 +1,4 @@
 use Rattle.std.proofs.Common.{◌∙◌}
-use Rattle.std.specs.String.{string_bytes}
 use Rattle.functions.specs.function_text.Functions.{parts_of}
 use Rattle.functions.proofs.function_text_lemmas.SectionTexts.{begins, entry_is}
 use Rattle.functions.proofs.function_text.assembler.push_entry.Goals as goal

@@ -1,4 +1,4 @@
-use Rattle.std.proofs.Common.{ap, ◌∙◌, List, Option}
+use Rattle.std.proofs.Common.{ap, ◌∙◌}
 use Rattle.functions.specs.Below.{copier_sections}
 use Rattle.functions.specs.function_text.Functions.{parts_of}
 use Rattle.functions.proofs.function_text_lemmas.SectionTexts.{exit_is}

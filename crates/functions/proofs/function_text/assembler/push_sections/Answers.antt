@@ -1,5 +1,5 @@
-use Rattle.std.proofs.Common.{◌≡◌, ◌∙◌, ◌+◌, ◌%◌, ◌^◌, ℕ, List, length, ap, drop, get_or, refl, subst, sym}
-use Rattle.functions.specs.Below.{code_of, Instr, section_code}
+use Rattle.std.proofs.Common.{◌≡◌, ◌∙◌, ◌+◌, ◌%◌, ◌^◌, ℕ, length, ap, drop, get_or, refl, subst, sym}
+use Rattle.functions.specs.Below.{code_of, section_code}
 use Rattle.functions.specs.function_text.Functions.{parts_of}
 use Rattle.functions.proofs.function_code_lemmas.DistanceLemmas.{left_first, left_on}
 use Rattle.functions.proofs.function_text_lemmas.SectionTexts.{ends_on, text_on}
