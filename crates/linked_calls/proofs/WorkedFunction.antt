@@ -1,5 +1,5 @@
--- The function that adds one to its argument, as it is worked out by hand: 29 words, and 25 steps around the 4 of its
--- body; at a small pace a word and a step more, for the branch of the loop that wipes its room.
+-- The function that adds one to its argument, as it is worked out by hand: 30 words, and 26 steps around the 4 of its
+-- body, at either pace.
 use Rattle.std.proofs.Common.{◌≡◌, ℕ, false, [], ◌∷◌, length, Some, refl}
 use Rattle.hepurita.specs.Needs.{Needs}
 use Rattle.linked_calls.proofs.Below.{around_steps, Fields, function_words, P1, room_of, Secret, SingleWord, Uint32}
@@ -22,11 +22,11 @@ needs = record { blank = Some []; spared = false ∷ [] }
 room : room_of add_one ≡ 16
 room = refl
 
-words : length (function_words add_one needs Fast) ≡ 29
+words : length (function_words add_one needs Fast) ≡ 30
 unfolding function_words
 words = refl
 
-steps : (pointers : ℕ → ℕ) → around_steps add_one needs Fast pointers ≡ 25
+steps : (pointers : ℕ → ℕ) → around_steps add_one needs Fast pointers ≡ 26
 steps pointers = refl
 
 small_words : length (function_words add_one needs Small) ≡ 30
