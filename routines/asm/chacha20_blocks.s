@@ -1,4 +1,4 @@
-# chacha20_blocks: made by factc 1.0.0 function; 879 words, 576 bytes of stack, profile 1
+# chacha20_blocks: made by factc 1.0.0 function; 795 words, 576 bytes of stack, profile 1
     .option push
     .option norvc
     .option norelax
@@ -46,97 +46,23 @@ chacha20_blocks:
     # parameter 0: an array
     .word 0x00050293  # addi x5, x10, 0
     .word 0x00010313  # addi x6, x2, 0
-    .word 0x0032fe13  # andi x28, x5, 3
-    .word 0x020e0263  # beq x28, x0, 36
-    .word 0x02000393  # addi x7, x0, 32
-    .word 0x005383b3  # add x7, x7, x5
-    .word 0x0002ce03  # lbu x28, 0(x5)
-    .word 0x01c30023  # sb x28, 0(x6)
-    .word 0x00128293  # addi x5, x5, 1
-    .word 0x00130313  # addi x6, x6, 1
-    .word 0xfe7298e3  # bne x5, x7, -16
-    .word 0x0440006f  # jal x0, 68
-    .word 0x0002ae03  # lw x28, 0(x5)
-    .word 0x01c32023  # sw x28, 0(x6)
-    .word 0x0042ae03  # lw x28, 4(x5)
-    .word 0x01c32223  # sw x28, 4(x6)
-    .word 0x0082ae03  # lw x28, 8(x5)
-    .word 0x01c32423  # sw x28, 8(x6)
-    .word 0x00c2ae03  # lw x28, 12(x5)
-    .word 0x01c32623  # sw x28, 12(x6)
-    .word 0x0102ae03  # lw x28, 16(x5)
-    .word 0x01c32823  # sw x28, 16(x6)
-    .word 0x0142ae03  # lw x28, 20(x5)
-    .word 0x01c32a23  # sw x28, 20(x6)
-    .word 0x0182ae03  # lw x28, 24(x5)
-    .word 0x01c32c23  # sw x28, 24(x6)
-    .word 0x01c2ae03  # lw x28, 28(x5)
-    .word 0x01c32e23  # sw x28, 28(x6)
+    .word 0x02028393  # addi x7, x5, 32
+    .word 0x3e100f6f  # jal x30, 3040
     # parameter 1: a word
     .word 0x02b12023  # sw x11, 32(x2)
     # parameter 2: an array
     .word 0x00060293  # addi x5, x12, 0
     .word 0x02410313  # addi x6, x2, 36
-    .word 0x0032fe13  # andi x28, x5, 3
-    .word 0x020e0263  # beq x28, x0, 36
-    .word 0x00c00393  # addi x7, x0, 12
-    .word 0x005383b3  # add x7, x7, x5
-    .word 0x0002ce03  # lbu x28, 0(x5)
-    .word 0x01c30023  # sb x28, 0(x6)
-    .word 0x00128293  # addi x5, x5, 1
-    .word 0x00130313  # addi x6, x6, 1
-    .word 0xfe7298e3  # bne x5, x7, -16
-    .word 0x01c0006f  # jal x0, 28
-    .word 0x0002ae03  # lw x28, 0(x5)
-    .word 0x01c32023  # sw x28, 0(x6)
-    .word 0x0042ae03  # lw x28, 4(x5)
-    .word 0x01c32223  # sw x28, 4(x6)
-    .word 0x0082ae03  # lw x28, 8(x5)
-    .word 0x01c32423  # sw x28, 8(x6)
+    .word 0x00c28393  # addi x7, x5, 12
+    .word 0x3cd00f6f  # jal x30, 3020
     # parameter 3: an array
     .word 0x00068293  # addi x5, x13, 0
     .word 0x03010313  # addi x6, x2, 48
-    .word 0x0032fe13  # andi x28, x5, 3
-    .word 0x020e0263  # beq x28, x0, 36
-    .word 0x10000393  # addi x7, x0, 256
-    .word 0x005383b3  # add x7, x7, x5
-    .word 0x0002ce03  # lbu x28, 0(x5)
-    .word 0x01c30023  # sb x28, 0(x6)
-    .word 0x00128293  # addi x5, x5, 1
-    .word 0x00130313  # addi x6, x6, 1
-    .word 0xfe7298e3  # bne x5, x7, -16
-    .word 0x0380006f  # jal x0, 56
-    .word 0x10000393  # addi x7, x0, 256
-    .word 0x005383b3  # add x7, x7, x5
-    .word 0x0002ae03  # lw x28, 0(x5)
-    .word 0x01c32023  # sw x28, 0(x6)
-    .word 0x0042ae03  # lw x28, 4(x5)
-    .word 0x01c32223  # sw x28, 4(x6)
-    .word 0x0082ae03  # lw x28, 8(x5)
-    .word 0x01c32423  # sw x28, 8(x6)
-    .word 0x00c2ae03  # lw x28, 12(x5)
-    .word 0x01c32623  # sw x28, 12(x6)
-    .word 0x01028293  # addi x5, x5, 16
-    .word 0x01030313  # addi x6, x6, 16
-    .word 0xfc729ce3  # bne x5, x7, -40
+    .word 0x10028393  # addi x7, x5, 256
+    .word 0x3bd00f6f  # jal x30, 3004
     # parameter 4: a word
     .word 0x12e12823  # sw x14, 304(x2)
     # the body
-    .word 0x00000513  # addi x10, x0, 0
-    .word 0x00000593  # addi x11, x0, 0
-    .word 0x00000613  # addi x12, x0, 0
-    .word 0x00000693  # addi x13, x0, 0
-    .word 0x00000793  # addi x15, x0, 0
-    .word 0x00000813  # addi x16, x0, 0
-    .word 0x00000893  # addi x17, x0, 0
-    .word 0x00000913  # addi x18, x0, 0
-    .word 0x00000993  # addi x19, x0, 0
-    .word 0x00000a13  # addi x20, x0, 0
-    .word 0x00000a93  # addi x21, x0, 0
-    .word 0x00000b13  # addi x22, x0, 0
-    .word 0x00000b93  # addi x23, x0, 0
-    .word 0x00000c13  # addi x24, x0, 0
-    .word 0x00000c93  # addi x25, x0, 0
     .word 0x00014283  # lbu x5, 0(x2)
     .word 0x00114303  # lbu x6, 1(x2)
     .word 0x00831313  # slli x6, x6, 8
@@ -353,164 +279,164 @@ chacha20_blocks:
     .word 0x1e612a23  # sw x6, 500(x2)
     .word 0x00e50533  # add x10, x10, x14
     .word 0x00ab4b33  # xor x22, x22, x10
-    .word 0x010b1293  # slli x5, x22, 16
-    .word 0x010b5313  # srli x6, x22, 16
-    .word 0x0062eb33  # or x22, x5, x6
+    .word 0x010b1f13  # slli x30, x22, 16
+    .word 0x010b5b13  # srli x22, x22, 16
+    .word 0x016f0b33  # add x22, x30, x22
     .word 0x01690933  # add x18, x18, x22
     .word 0x01274733  # xor x14, x14, x18
-    .word 0x00c71293  # slli x5, x14, 12
-    .word 0x01475313  # srli x6, x14, 20
-    .word 0x0062e733  # or x14, x5, x6
+    .word 0x00c71f13  # slli x30, x14, 12
+    .word 0x01475713  # srli x14, x14, 20
+    .word 0x00ef0733  # add x14, x30, x14
     .word 0x00e50533  # add x10, x10, x14
     .word 0x00ab4b33  # xor x22, x22, x10
-    .word 0x008b1293  # slli x5, x22, 8
-    .word 0x018b5313  # srli x6, x22, 24
-    .word 0x0062eb33  # or x22, x5, x6
+    .word 0x008b1f13  # slli x30, x22, 8
+    .word 0x018b5b13  # srli x22, x22, 24
+    .word 0x016f0b33  # add x22, x30, x22
     .word 0x01690933  # add x18, x18, x22
     .word 0x01274733  # xor x14, x14, x18
-    .word 0x00771293  # slli x5, x14, 7
-    .word 0x01975313  # srli x6, x14, 25
-    .word 0x0062e733  # or x14, x5, x6
+    .word 0x00771f13  # slli x30, x14, 7
+    .word 0x01975713  # srli x14, x14, 25
+    .word 0x00ef0733  # add x14, x30, x14
     .word 0x00f585b3  # add x11, x11, x15
     .word 0x00bbcbb3  # xor x23, x23, x11
-    .word 0x010b9293  # slli x5, x23, 16
-    .word 0x010bd313  # srli x6, x23, 16
-    .word 0x0062ebb3  # or x23, x5, x6
+    .word 0x010b9f13  # slli x30, x23, 16
+    .word 0x010bdb93  # srli x23, x23, 16
+    .word 0x017f0bb3  # add x23, x30, x23
     .word 0x017989b3  # add x19, x19, x23
     .word 0x0137c7b3  # xor x15, x15, x19
-    .word 0x00c79293  # slli x5, x15, 12
-    .word 0x0147d313  # srli x6, x15, 20
-    .word 0x0062e7b3  # or x15, x5, x6
+    .word 0x00c79f13  # slli x30, x15, 12
+    .word 0x0147d793  # srli x15, x15, 20
+    .word 0x00ff07b3  # add x15, x30, x15
     .word 0x00f585b3  # add x11, x11, x15
     .word 0x00bbcbb3  # xor x23, x23, x11
-    .word 0x008b9293  # slli x5, x23, 8
-    .word 0x018bd313  # srli x6, x23, 24
-    .word 0x0062ebb3  # or x23, x5, x6
+    .word 0x008b9f13  # slli x30, x23, 8
+    .word 0x018bdb93  # srli x23, x23, 24
+    .word 0x017f0bb3  # add x23, x30, x23
     .word 0x017989b3  # add x19, x19, x23
     .word 0x0137c7b3  # xor x15, x15, x19
-    .word 0x00779293  # slli x5, x15, 7
-    .word 0x0197d313  # srli x6, x15, 25
-    .word 0x0062e7b3  # or x15, x5, x6
+    .word 0x00779f13  # slli x30, x15, 7
+    .word 0x0197d793  # srli x15, x15, 25
+    .word 0x00ff07b3  # add x15, x30, x15
     .word 0x01060633  # add x12, x12, x16
     .word 0x00cc4c33  # xor x24, x24, x12
-    .word 0x010c1293  # slli x5, x24, 16
-    .word 0x010c5313  # srli x6, x24, 16
-    .word 0x0062ec33  # or x24, x5, x6
+    .word 0x010c1f13  # slli x30, x24, 16
+    .word 0x010c5c13  # srli x24, x24, 16
+    .word 0x018f0c33  # add x24, x30, x24
     .word 0x018a0a33  # add x20, x20, x24
     .word 0x01484833  # xor x16, x16, x20
-    .word 0x00c81293  # slli x5, x16, 12
-    .word 0x01485313  # srli x6, x16, 20
-    .word 0x0062e833  # or x16, x5, x6
+    .word 0x00c81f13  # slli x30, x16, 12
+    .word 0x01485813  # srli x16, x16, 20
+    .word 0x010f0833  # add x16, x30, x16
     .word 0x01060633  # add x12, x12, x16
     .word 0x00cc4c33  # xor x24, x24, x12
-    .word 0x008c1293  # slli x5, x24, 8
-    .word 0x018c5313  # srli x6, x24, 24
-    .word 0x0062ec33  # or x24, x5, x6
+    .word 0x008c1f13  # slli x30, x24, 8
+    .word 0x018c5c13  # srli x24, x24, 24
+    .word 0x018f0c33  # add x24, x30, x24
     .word 0x018a0a33  # add x20, x20, x24
     .word 0x01484833  # xor x16, x16, x20
-    .word 0x00781293  # slli x5, x16, 7
-    .word 0x01985313  # srli x6, x16, 25
-    .word 0x0062e833  # or x16, x5, x6
+    .word 0x00781f13  # slli x30, x16, 7
+    .word 0x01985813  # srli x16, x16, 25
+    .word 0x010f0833  # add x16, x30, x16
     .word 0x011686b3  # add x13, x13, x17
     .word 0x00dcccb3  # xor x25, x25, x13
-    .word 0x010c9293  # slli x5, x25, 16
-    .word 0x010cd313  # srli x6, x25, 16
-    .word 0x0062ecb3  # or x25, x5, x6
+    .word 0x010c9f13  # slli x30, x25, 16
+    .word 0x010cdc93  # srli x25, x25, 16
+    .word 0x019f0cb3  # add x25, x30, x25
     .word 0x019a8ab3  # add x21, x21, x25
     .word 0x0158c8b3  # xor x17, x17, x21
-    .word 0x00c89293  # slli x5, x17, 12
-    .word 0x0148d313  # srli x6, x17, 20
-    .word 0x0062e8b3  # or x17, x5, x6
+    .word 0x00c89f13  # slli x30, x17, 12
+    .word 0x0148d893  # srli x17, x17, 20
+    .word 0x011f08b3  # add x17, x30, x17
     .word 0x011686b3  # add x13, x13, x17
     .word 0x00dcccb3  # xor x25, x25, x13
-    .word 0x008c9293  # slli x5, x25, 8
-    .word 0x018cd313  # srli x6, x25, 24
-    .word 0x0062ecb3  # or x25, x5, x6
+    .word 0x008c9f13  # slli x30, x25, 8
+    .word 0x018cdc93  # srli x25, x25, 24
+    .word 0x019f0cb3  # add x25, x30, x25
     .word 0x019a8ab3  # add x21, x21, x25
     .word 0x0158c8b3  # xor x17, x17, x21
-    .word 0x00789293  # slli x5, x17, 7
-    .word 0x0198d313  # srli x6, x17, 25
-    .word 0x0062e8b3  # or x17, x5, x6
+    .word 0x00789f13  # slli x30, x17, 7
+    .word 0x0198d893  # srli x17, x17, 25
+    .word 0x011f08b3  # add x17, x30, x17
     .word 0x00f50533  # add x10, x10, x15
     .word 0x00acccb3  # xor x25, x25, x10
-    .word 0x010c9293  # slli x5, x25, 16
-    .word 0x010cd313  # srli x6, x25, 16
-    .word 0x0062ecb3  # or x25, x5, x6
+    .word 0x010c9f13  # slli x30, x25, 16
+    .word 0x010cdc93  # srli x25, x25, 16
+    .word 0x019f0cb3  # add x25, x30, x25
     .word 0x019a0a33  # add x20, x20, x25
     .word 0x0147c7b3  # xor x15, x15, x20
-    .word 0x00c79293  # slli x5, x15, 12
-    .word 0x0147d313  # srli x6, x15, 20
-    .word 0x0062e7b3  # or x15, x5, x6
+    .word 0x00c79f13  # slli x30, x15, 12
+    .word 0x0147d793  # srli x15, x15, 20
+    .word 0x00ff07b3  # add x15, x30, x15
     .word 0x00f50533  # add x10, x10, x15
     .word 0x00acccb3  # xor x25, x25, x10
-    .word 0x008c9293  # slli x5, x25, 8
-    .word 0x018cd313  # srli x6, x25, 24
-    .word 0x0062ecb3  # or x25, x5, x6
+    .word 0x008c9f13  # slli x30, x25, 8
+    .word 0x018cdc93  # srli x25, x25, 24
+    .word 0x019f0cb3  # add x25, x30, x25
     .word 0x019a0a33  # add x20, x20, x25
     .word 0x0147c7b3  # xor x15, x15, x20
-    .word 0x00779293  # slli x5, x15, 7
-    .word 0x0197d313  # srli x6, x15, 25
-    .word 0x0062e7b3  # or x15, x5, x6
+    .word 0x00779f13  # slli x30, x15, 7
+    .word 0x0197d793  # srli x15, x15, 25
+    .word 0x00ff07b3  # add x15, x30, x15
     .word 0x010585b3  # add x11, x11, x16
     .word 0x00bb4b33  # xor x22, x22, x11
-    .word 0x010b1293  # slli x5, x22, 16
-    .word 0x010b5313  # srli x6, x22, 16
-    .word 0x0062eb33  # or x22, x5, x6
+    .word 0x010b1f13  # slli x30, x22, 16
+    .word 0x010b5b13  # srli x22, x22, 16
+    .word 0x016f0b33  # add x22, x30, x22
     .word 0x016a8ab3  # add x21, x21, x22
     .word 0x01584833  # xor x16, x16, x21
-    .word 0x00c81293  # slli x5, x16, 12
-    .word 0x01485313  # srli x6, x16, 20
-    .word 0x0062e833  # or x16, x5, x6
+    .word 0x00c81f13  # slli x30, x16, 12
+    .word 0x01485813  # srli x16, x16, 20
+    .word 0x010f0833  # add x16, x30, x16
     .word 0x010585b3  # add x11, x11, x16
     .word 0x00bb4b33  # xor x22, x22, x11
-    .word 0x008b1293  # slli x5, x22, 8
-    .word 0x018b5313  # srli x6, x22, 24
-    .word 0x0062eb33  # or x22, x5, x6
+    .word 0x008b1f13  # slli x30, x22, 8
+    .word 0x018b5b13  # srli x22, x22, 24
+    .word 0x016f0b33  # add x22, x30, x22
     .word 0x016a8ab3  # add x21, x21, x22
     .word 0x01584833  # xor x16, x16, x21
-    .word 0x00781293  # slli x5, x16, 7
-    .word 0x01985313  # srli x6, x16, 25
-    .word 0x0062e833  # or x16, x5, x6
+    .word 0x00781f13  # slli x30, x16, 7
+    .word 0x01985813  # srli x16, x16, 25
+    .word 0x010f0833  # add x16, x30, x16
     .word 0x01160633  # add x12, x12, x17
     .word 0x00cbcbb3  # xor x23, x23, x12
-    .word 0x010b9293  # slli x5, x23, 16
-    .word 0x010bd313  # srli x6, x23, 16
-    .word 0x0062ebb3  # or x23, x5, x6
+    .word 0x010b9f13  # slli x30, x23, 16
+    .word 0x010bdb93  # srli x23, x23, 16
+    .word 0x017f0bb3  # add x23, x30, x23
     .word 0x01790933  # add x18, x18, x23
     .word 0x0128c8b3  # xor x17, x17, x18
-    .word 0x00c89293  # slli x5, x17, 12
-    .word 0x0148d313  # srli x6, x17, 20
-    .word 0x0062e8b3  # or x17, x5, x6
+    .word 0x00c89f13  # slli x30, x17, 12
+    .word 0x0148d893  # srli x17, x17, 20
+    .word 0x011f08b3  # add x17, x30, x17
     .word 0x01160633  # add x12, x12, x17
     .word 0x00cbcbb3  # xor x23, x23, x12
-    .word 0x008b9293  # slli x5, x23, 8
-    .word 0x018bd313  # srli x6, x23, 24
-    .word 0x0062ebb3  # or x23, x5, x6
+    .word 0x008b9f13  # slli x30, x23, 8
+    .word 0x018bdb93  # srli x23, x23, 24
+    .word 0x017f0bb3  # add x23, x30, x23
     .word 0x01790933  # add x18, x18, x23
     .word 0x0128c8b3  # xor x17, x17, x18
-    .word 0x00789293  # slli x5, x17, 7
-    .word 0x0198d313  # srli x6, x17, 25
-    .word 0x0062e8b3  # or x17, x5, x6
+    .word 0x00789f13  # slli x30, x17, 7
+    .word 0x0198d893  # srli x17, x17, 25
+    .word 0x011f08b3  # add x17, x30, x17
     .word 0x00e686b3  # add x13, x13, x14
     .word 0x00dc4c33  # xor x24, x24, x13
-    .word 0x010c1293  # slli x5, x24, 16
-    .word 0x010c5313  # srli x6, x24, 16
-    .word 0x0062ec33  # or x24, x5, x6
+    .word 0x010c1f13  # slli x30, x24, 16
+    .word 0x010c5c13  # srli x24, x24, 16
+    .word 0x018f0c33  # add x24, x30, x24
     .word 0x018989b3  # add x19, x19, x24
     .word 0x01374733  # xor x14, x14, x19
-    .word 0x00c71293  # slli x5, x14, 12
-    .word 0x01475313  # srli x6, x14, 20
-    .word 0x0062e733  # or x14, x5, x6
+    .word 0x00c71f13  # slli x30, x14, 12
+    .word 0x01475713  # srli x14, x14, 20
+    .word 0x00ef0733  # add x14, x30, x14
     .word 0x00e686b3  # add x13, x13, x14
     .word 0x00dc4c33  # xor x24, x24, x13
-    .word 0x008c1293  # slli x5, x24, 8
-    .word 0x018c5313  # srli x6, x24, 24
-    .word 0x0062ec33  # or x24, x5, x6
+    .word 0x008c1f13  # slli x30, x24, 8
+    .word 0x018c5c13  # srli x24, x24, 24
+    .word 0x018f0c33  # add x24, x30, x24
     .word 0x018989b3  # add x19, x19, x24
     .word 0x01374733  # xor x14, x14, x19
-    .word 0x00771293  # slli x5, x14, 7
-    .word 0x01975313  # srli x6, x14, 25
-    .word 0x0062e733  # or x14, x5, x6
+    .word 0x00771f13  # slli x30, x14, 7
+    .word 0x01975713  # srli x14, x14, 25
+    .word 0x00ef0733  # add x14, x30, x14
     .word 0xd61ff06f  # jal x0, -672
     .word 0x1a812303  # lw x6, 424(x2)
     .word 0x00650533  # add x10, x10, x6
@@ -850,31 +776,10 @@ chacha20_blocks:
     # the result
     .word 0x00000513  # addi x10, x0, 0
     # parameter 3: the array, back
-    .word 0x23c12283  # lw x5, 572(x2)
-    .word 0x03010313  # addi x6, x2, 48
-    .word 0x0032fe13  # andi x28, x5, 3
-    .word 0x020e0263  # beq x28, x0, 36
-    .word 0x10000393  # addi x7, x0, 256
-    .word 0x005383b3  # add x7, x7, x5
-    .word 0x00034e03  # lbu x28, 0(x6)
-    .word 0x01c28023  # sb x28, 0(x5)
-    .word 0x00128293  # addi x5, x5, 1
-    .word 0x00130313  # addi x6, x6, 1
-    .word 0xfe7298e3  # bne x5, x7, -16
-    .word 0x0380006f  # jal x0, 56
-    .word 0x10000393  # addi x7, x0, 256
-    .word 0x005383b3  # add x7, x7, x5
-    .word 0x00032e03  # lw x28, 0(x6)
-    .word 0x01c2a023  # sw x28, 0(x5)
-    .word 0x00432e03  # lw x28, 4(x6)
-    .word 0x01c2a223  # sw x28, 4(x5)
-    .word 0x00832e03  # lw x28, 8(x6)
-    .word 0x01c2a423  # sw x28, 8(x5)
-    .word 0x00c32e03  # lw x28, 12(x6)
-    .word 0x01c2a623  # sw x28, 12(x5)
-    .word 0x01028293  # addi x5, x5, 16
-    .word 0x01030313  # addi x6, x6, 16
-    .word 0xfc729ce3  # bne x5, x7, -40
+    .word 0x03010293  # addi x5, x2, 48
+    .word 0x23c12303  # lw x6, 572(x2)
+    .word 0x10028393  # addi x7, x5, 256
+    .word 0x08c00f6f  # jal x30, 140
     # above the frame
     .word 0x20010293  # addi x5, x2, 512
     # the caller's registers
@@ -908,12 +813,8 @@ chacha20_blocks:
     .word 0x00012223  # sw x0, 4(x2)
     .word 0x00012423  # sw x0, 8(x2)
     .word 0x00012623  # sw x0, 12(x2)
-    .word 0x00012823  # sw x0, 16(x2)
-    .word 0x00012a23  # sw x0, 20(x2)
-    .word 0x00012c23  # sw x0, 24(x2)
-    .word 0x00012e23  # sw x0, 28(x2)
-    .word 0x02010113  # addi x2, x2, 32
-    .word 0xfc511ee3  # bne x2, x5, -36
+    .word 0x01010113  # addi x2, x2, 16
+    .word 0xfe5116e3  # bne x2, x5, -20
     .cfi_def_cfa 2, 0
     # temporaries, wiped
     .word 0x00000293  # addi x5, x0, 0
@@ -932,6 +833,34 @@ chacha20_blocks:
     .word 0x00000f93  # addi x31, x0, 0
     # back
     .word 0x00008067  # jalr x0, 0(x1)
+    # from x5 to x6 up to x7, and back
+    .cfi_def_cfa 2, 576
+    .cfi_offset 8, -64
+    .cfi_offset 18, -60
+    .cfi_offset 19, -56
+    .cfi_offset 20, -52
+    .cfi_offset 21, -48
+    .cfi_offset 22, -44
+    .cfi_offset 23, -40
+    .cfi_offset 24, -36
+    .cfi_offset 25, -32
+    .cfi_offset 26, -28
+    .cfi_offset 27, -24
+    .word 0x0062ee33  # or x28, x5, x6
+    .word 0x003e7e13  # andi x28, x28, 3
+    .word 0x000e0e63  # beq x28, x0, 28
+    .word 0x0002ce03  # lbu x28, 0(x5)
+    .word 0x01c30023  # sb x28, 0(x6)
+    .word 0x00128293  # addi x5, x5, 1
+    .word 0x00130313  # addi x6, x6, 1
+    .word 0xfe7298e3  # bne x5, x7, -16
+    .word 0x0180006f  # jal x0, 24
+    .word 0x0002ae03  # lw x28, 0(x5)
+    .word 0x01c32023  # sw x28, 0(x6)
+    .word 0x00428293  # addi x5, x5, 4
+    .word 0x00430313  # addi x6, x6, 4
+    .word 0xfe7298e3  # bne x5, x7, -16
+    .word 0x000f0067  # jalr x0, 0(x30)
     .cfi_endproc
     .size chacha20_blocks, . - chacha20_blocks
     .option pop

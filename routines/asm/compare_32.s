@@ -1,4 +1,4 @@
-# compare_32: made by factc 1.0.0 function; 159 words, 96 bytes of stack, profile 1
+# compare_32: made by factc 1.0.0 function; 119 words, 80 bytes of stack, profile 1
     .option push
     .option norvc
     .option norelax
@@ -10,143 +10,86 @@
 compare_32:
     .cfi_startproc
     # room above the frame
-    .word 0xff010113  # addi x2, x2, -16
-    .cfi_def_cfa_offset 16
+    .cfi_def_cfa_offset 0
     # the caller's registers
-    .word 0x00812023  # sw x8, 0(x2)
-    .cfi_offset 8, -16
-    .word 0x00912223  # sw x9, 4(x2)
-    .cfi_offset 9, -12
     # arguments that are needed behind the body
     # the frame's base
     .word 0xfb010113  # addi x2, x2, -80
-    .cfi_def_cfa 2, 96
+    .cfi_def_cfa 2, 80
     # parameter 0: an array
     .word 0x00050293  # addi x5, x10, 0
     .word 0x00010313  # addi x6, x2, 0
-    .word 0x0032fe13  # andi x28, x5, 3
-    .word 0x020e0263  # beq x28, x0, 36
-    .word 0x02000393  # addi x7, x0, 32
-    .word 0x005383b3  # add x7, x7, x5
-    .word 0x0002ce03  # lbu x28, 0(x5)
-    .word 0x01c30023  # sb x28, 0(x6)
-    .word 0x00128293  # addi x5, x5, 1
-    .word 0x00130313  # addi x6, x6, 1
-    .word 0xfe7298e3  # bne x5, x7, -16
-    .word 0x0440006f  # jal x0, 68
-    .word 0x0002ae03  # lw x28, 0(x5)
-    .word 0x01c32023  # sw x28, 0(x6)
-    .word 0x0042ae03  # lw x28, 4(x5)
-    .word 0x01c32223  # sw x28, 4(x6)
-    .word 0x0082ae03  # lw x28, 8(x5)
-    .word 0x01c32423  # sw x28, 8(x6)
-    .word 0x00c2ae03  # lw x28, 12(x5)
-    .word 0x01c32623  # sw x28, 12(x6)
-    .word 0x0102ae03  # lw x28, 16(x5)
-    .word 0x01c32823  # sw x28, 16(x6)
-    .word 0x0142ae03  # lw x28, 20(x5)
-    .word 0x01c32a23  # sw x28, 20(x6)
-    .word 0x0182ae03  # lw x28, 24(x5)
-    .word 0x01c32c23  # sw x28, 24(x6)
-    .word 0x01c2ae03  # lw x28, 28(x5)
-    .word 0x01c32e23  # sw x28, 28(x6)
+    .word 0x02028393  # addi x7, x5, 32
+    .word 0x17800f6f  # jal x30, 376
     # parameter 1: an array
     .word 0x00058293  # addi x5, x11, 0
     .word 0x02010313  # addi x6, x2, 32
-    .word 0x0032fe13  # andi x28, x5, 3
-    .word 0x020e0263  # beq x28, x0, 36
-    .word 0x02000393  # addi x7, x0, 32
-    .word 0x005383b3  # add x7, x7, x5
-    .word 0x0002ce03  # lbu x28, 0(x5)
-    .word 0x01c30023  # sb x28, 0(x6)
-    .word 0x00128293  # addi x5, x5, 1
-    .word 0x00130313  # addi x6, x6, 1
-    .word 0xfe7298e3  # bne x5, x7, -16
-    .word 0x0440006f  # jal x0, 68
-    .word 0x0002ae03  # lw x28, 0(x5)
-    .word 0x01c32023  # sw x28, 0(x6)
-    .word 0x0042ae03  # lw x28, 4(x5)
-    .word 0x01c32223  # sw x28, 4(x6)
-    .word 0x0082ae03  # lw x28, 8(x5)
-    .word 0x01c32423  # sw x28, 8(x6)
-    .word 0x00c2ae03  # lw x28, 12(x5)
-    .word 0x01c32623  # sw x28, 12(x6)
-    .word 0x0102ae03  # lw x28, 16(x5)
-    .word 0x01c32823  # sw x28, 16(x6)
-    .word 0x0142ae03  # lw x28, 20(x5)
-    .word 0x01c32a23  # sw x28, 20(x6)
-    .word 0x0182ae03  # lw x28, 24(x5)
-    .word 0x01c32c23  # sw x28, 24(x6)
-    .word 0x01c2ae03  # lw x28, 28(x5)
-    .word 0x01c32e23  # sw x28, 28(x6)
+    .word 0x02028393  # addi x7, x5, 32
+    .word 0x16800f6f  # jal x30, 360
     # the body
+    .word 0x00000613  # addi x12, x0, 0
     .word 0x00000513  # addi x10, x0, 0
     .word 0x00000593  # addi x11, x0, 0
     .word 0x00000613  # addi x12, x0, 0
-    .word 0x002586b3  # add x13, x11, x2
-    .word 0x00000413  # addi x8, x0, 0
-    .word 0x00000493  # addi x9, x0, 0
-    .word 0x00000513  # addi x10, x0, 0
     .word 0x01800293  # addi x5, x0, 24
-    .word 0x00351313  # slli x6, x10, 3
+    .word 0x00361313  # slli x6, x12, 3
+    .word 0x406286b3  # sub x13, x5, x6
+    .word 0x002687b3  # add x15, x13, x2
+    .word 0x0077c283  # lbu x5, 7(x15)
+    .word 0x0277c303  # lbu x6, 39(x15)
     .word 0x406282b3  # sub x5, x5, x6
-    .word 0x0182f593  # andi x11, x5, 24
-    .word 0x002586b3  # add x13, x11, x2
-    .word 0x0076c283  # lbu x5, 7(x13)
-    .word 0x0276c303  # lbu x6, 39(x13)
+    .word 0x40a28733  # sub x14, x5, x10
+    .word 0x01f75513  # srli x10, x14, 31
+    .word 0x00e5e5b3  # or x11, x11, x14
+    .word 0x0067c283  # lbu x5, 6(x15)
+    .word 0x0267c303  # lbu x6, 38(x15)
     .word 0x406282b3  # sub x5, x5, x6
-    .word 0x40828633  # sub x12, x5, x8
-    .word 0x01f65413  # srli x8, x12, 31
-    .word 0x00c4e4b3  # or x9, x9, x12
-    .word 0x0066c283  # lbu x5, 6(x13)
-    .word 0x0266c303  # lbu x6, 38(x13)
+    .word 0x40a28733  # sub x14, x5, x10
+    .word 0x01f75513  # srli x10, x14, 31
+    .word 0x00e5e5b3  # or x11, x11, x14
+    .word 0x0057c283  # lbu x5, 5(x15)
+    .word 0x0257c303  # lbu x6, 37(x15)
     .word 0x406282b3  # sub x5, x5, x6
-    .word 0x40828633  # sub x12, x5, x8
-    .word 0x01f65413  # srli x8, x12, 31
-    .word 0x00c4e4b3  # or x9, x9, x12
-    .word 0x0056c283  # lbu x5, 5(x13)
-    .word 0x0256c303  # lbu x6, 37(x13)
+    .word 0x40a28733  # sub x14, x5, x10
+    .word 0x01f75513  # srli x10, x14, 31
+    .word 0x00e5e5b3  # or x11, x11, x14
+    .word 0x0047c283  # lbu x5, 4(x15)
+    .word 0x0247c303  # lbu x6, 36(x15)
     .word 0x406282b3  # sub x5, x5, x6
-    .word 0x40828633  # sub x12, x5, x8
-    .word 0x01f65413  # srli x8, x12, 31
-    .word 0x00c4e4b3  # or x9, x9, x12
-    .word 0x0046c283  # lbu x5, 4(x13)
-    .word 0x0246c303  # lbu x6, 36(x13)
+    .word 0x40a28733  # sub x14, x5, x10
+    .word 0x01f75513  # srli x10, x14, 31
+    .word 0x00e5e5b3  # or x11, x11, x14
+    .word 0x0037c283  # lbu x5, 3(x15)
+    .word 0x0237c303  # lbu x6, 35(x15)
     .word 0x406282b3  # sub x5, x5, x6
-    .word 0x40828633  # sub x12, x5, x8
-    .word 0x01f65413  # srli x8, x12, 31
-    .word 0x00c4e4b3  # or x9, x9, x12
-    .word 0x0036c283  # lbu x5, 3(x13)
-    .word 0x0236c303  # lbu x6, 35(x13)
+    .word 0x40a28733  # sub x14, x5, x10
+    .word 0x01f75513  # srli x10, x14, 31
+    .word 0x00e5e5b3  # or x11, x11, x14
+    .word 0x0027c283  # lbu x5, 2(x15)
+    .word 0x0227c303  # lbu x6, 34(x15)
     .word 0x406282b3  # sub x5, x5, x6
-    .word 0x40828633  # sub x12, x5, x8
-    .word 0x01f65413  # srli x8, x12, 31
-    .word 0x00c4e4b3  # or x9, x9, x12
-    .word 0x0026c283  # lbu x5, 2(x13)
-    .word 0x0226c303  # lbu x6, 34(x13)
+    .word 0x40a28733  # sub x14, x5, x10
+    .word 0x01f75513  # srli x10, x14, 31
+    .word 0x00e5e5b3  # or x11, x11, x14
+    .word 0x0017c283  # lbu x5, 1(x15)
+    .word 0x0217c303  # lbu x6, 33(x15)
     .word 0x406282b3  # sub x5, x5, x6
-    .word 0x40828633  # sub x12, x5, x8
-    .word 0x01f65413  # srli x8, x12, 31
-    .word 0x00c4e4b3  # or x9, x9, x12
-    .word 0x0016c283  # lbu x5, 1(x13)
-    .word 0x0216c303  # lbu x6, 33(x13)
+    .word 0x40a28733  # sub x14, x5, x10
+    .word 0x01f75513  # srli x10, x14, 31
+    .word 0x00e5e5b3  # or x11, x11, x14
+    .word 0x0007c283  # lbu x5, 0(x15)
+    .word 0x0207c303  # lbu x6, 32(x15)
     .word 0x406282b3  # sub x5, x5, x6
-    .word 0x40828633  # sub x12, x5, x8
-    .word 0x01f65413  # srli x8, x12, 31
-    .word 0x00c4e4b3  # or x9, x9, x12
-    .word 0x0006c283  # lbu x5, 0(x13)
-    .word 0x0206c303  # lbu x6, 32(x13)
-    .word 0x406282b3  # sub x5, x5, x6
-    .word 0x40828633  # sub x12, x5, x8
-    .word 0x01f65413  # srli x8, x12, 31
-    .word 0x00c4e4b3  # or x9, x9, x12
-    .word 0x00150513  # addi x10, x10, 1
-    .word 0x00453293  # sltiu x5, x10, 4
-    .word 0xf20292e3  # bne x5, x0, -220
-    .word 0xfff50513  # addi x10, x10, -1
-    .word 0x00903633  # sltu x12, x0, x9
-    .word 0x00c602b3  # add x5, x12, x12
-    .word 0x408282b3  # sub x5, x5, x8
+    .word 0x40a28733  # sub x14, x5, x10
+    .word 0x01f75513  # srli x10, x14, 31
+    .word 0x00e5e5b3  # or x11, x11, x14
+    .word 0x00160613  # addi x12, x12, 1
+    .word 0x00463293  # sltiu x5, x12, 4
+    .word 0xf20294e3  # bne x5, x0, -216
+    .word 0xfff60613  # addi x12, x12, -1
+    .word 0x00b03733  # sltu x14, x0, x11
+    .word 0x00e702b3  # add x5, x14, x14
+    .word 0x40a282b3  # sub x5, x5, x10
     .word 0x0ff2f293  # andi x5, x5, 255
     .word 0x04512023  # sw x5, 64(x2)
     # the result
@@ -154,24 +97,16 @@ compare_32:
     # above the frame
     .word 0x05010293  # addi x5, x2, 80
     # the caller's registers
-    .word 0x0002a403  # lw x8, 0(x5)
-    .cfi_restore 8
-    .word 0x0042a483  # lw x9, 4(x5)
-    .cfi_restore 9
     # the caller's x2
-    .word 0x01028293  # addi x5, x5, 16
+    .word 0x00028293  # addi x5, x5, 0
     .cfi_def_cfa 5, 0
     # all the room, wiped upward
     .word 0x00012023  # sw x0, 0(x2)
     .word 0x00012223  # sw x0, 4(x2)
     .word 0x00012423  # sw x0, 8(x2)
     .word 0x00012623  # sw x0, 12(x2)
-    .word 0x00012823  # sw x0, 16(x2)
-    .word 0x00012a23  # sw x0, 20(x2)
-    .word 0x00012c23  # sw x0, 24(x2)
-    .word 0x00012e23  # sw x0, 28(x2)
-    .word 0x02010113  # addi x2, x2, 32
-    .word 0xfc511ee3  # bne x2, x5, -36
+    .word 0x01010113  # addi x2, x2, 16
+    .word 0xfe5116e3  # bne x2, x5, -20
     .cfi_def_cfa 2, 0
     # temporaries, wiped
     .word 0x00000293  # addi x5, x0, 0
@@ -190,6 +125,29 @@ compare_32:
     .word 0x00000f93  # addi x31, x0, 0
     # back
     .word 0x00008067  # jalr x0, 0(x1)
+    # from x5 to x6 up to x7, and back
+    .cfi_def_cfa 2, 80
+    .word 0x0062ee33  # or x28, x5, x6
+    .word 0x003e7e13  # andi x28, x28, 3
+    .word 0x000e0e63  # beq x28, x0, 28
+    .word 0x0002ce03  # lbu x28, 0(x5)
+    .word 0x01c30023  # sb x28, 0(x6)
+    .word 0x00128293  # addi x5, x5, 1
+    .word 0x00130313  # addi x6, x6, 1
+    .word 0xfe7298e3  # bne x5, x7, -16
+    .word 0x0300006f  # jal x0, 48
+    .word 0x0002ae03  # lw x28, 0(x5)
+    .word 0x01c32023  # sw x28, 0(x6)
+    .word 0x0042ae03  # lw x28, 4(x5)
+    .word 0x01c32223  # sw x28, 4(x6)
+    .word 0x0082ae03  # lw x28, 8(x5)
+    .word 0x01c32423  # sw x28, 8(x6)
+    .word 0x00c2ae03  # lw x28, 12(x5)
+    .word 0x01c32623  # sw x28, 12(x6)
+    .word 0x01028293  # addi x5, x5, 16
+    .word 0x01030313  # addi x6, x6, 16
+    .word 0xfc729ce3  # bne x5, x7, -40
+    .word 0x000f0067  # jalr x0, 0(x30)
     .cfi_endproc
     .size compare_32, . - compare_32
     .option pop

@@ -1,4 +1,4 @@
-# crc32: made by factc 1.0.0 function; 121 words, 112 bytes of stack, profile 1
+# crc32: made by factc 1.0.0 function; 109 words, 96 bytes of stack, profile 1
     .option push
     .option norvc
     .option norelax
@@ -10,112 +10,86 @@
 crc32:
     .cfi_startproc
     # room above the frame
-    .word 0xff010113  # addi x2, x2, -16
-    .cfi_def_cfa_offset 16
+    .cfi_def_cfa_offset 0
     # the caller's registers
-    .word 0x00912023  # sw x9, 0(x2)
-    .cfi_offset 9, -16
     # arguments that are needed behind the body
     # the frame's base
     .word 0xfa010113  # addi x2, x2, -96
-    .cfi_def_cfa 2, 112
+    .cfi_def_cfa 2, 96
     # parameter 0: a word
     .word 0x00a12023  # sw x10, 0(x2)
     # parameter 1: an array
     .word 0x00058293  # addi x5, x11, 0
     .word 0x00410313  # addi x6, x2, 4
-    .word 0x0032fe13  # andi x28, x5, 3
-    .word 0x020e0263  # beq x28, x0, 36
-    .word 0x04000393  # addi x7, x0, 64
-    .word 0x005383b3  # add x7, x7, x5
-    .word 0x0002ce03  # lbu x28, 0(x5)
-    .word 0x01c30023  # sb x28, 0(x6)
-    .word 0x00128293  # addi x5, x5, 1
-    .word 0x00130313  # addi x6, x6, 1
-    .word 0xfe7298e3  # bne x5, x7, -16
-    .word 0x0380006f  # jal x0, 56
-    .word 0x04000393  # addi x7, x0, 64
-    .word 0x005383b3  # add x7, x7, x5
-    .word 0x0002ae03  # lw x28, 0(x5)
-    .word 0x01c32023  # sw x28, 0(x6)
-    .word 0x0042ae03  # lw x28, 4(x5)
-    .word 0x01c32223  # sw x28, 4(x6)
-    .word 0x0082ae03  # lw x28, 8(x5)
-    .word 0x01c32423  # sw x28, 8(x6)
-    .word 0x00c2ae03  # lw x28, 12(x5)
-    .word 0x01c32623  # sw x28, 12(x6)
-    .word 0x01028293  # addi x5, x5, 16
-    .word 0x01030313  # addi x6, x6, 16
-    .word 0xfc729ce3  # bne x5, x7, -40
+    .word 0x04028393  # addi x7, x5, 64
+    .word 0x14c00f6f  # jal x30, 332
     # parameter 2: a word
     .word 0x04c12223  # sw x12, 68(x2)
     # the body
-    .word 0x00012483  # lw x9, 0(x2)
-    .word 0x04412503  # lw x10, 68(x2)
-    .word 0x00000693  # addi x13, x0, 0
-    .word 0xfff4c593  # xori x11, x9, -1
-    .word 0xedb88637  # lui x12, 0xedb88
-    .word 0x32060613  # addi x12, x12, 800
-    .word 0x00000693  # addi x13, x0, 0
-    .word 0x0aa6f863  # bgeu x13, x10, 176
-    .word 0x00268333  # add x6, x13, x2
+    .word 0x00012503  # lw x10, 0(x2)
+    .word 0x04412583  # lw x11, 68(x2)
+    .word 0x00000713  # addi x14, x0, 0
+    .word 0xfff54613  # xori x12, x10, -1
+    .word 0xedb886b7  # lui x13, 0xedb88
+    .word 0x32068693  # addi x13, x13, 800
+    .word 0x00000713  # addi x14, x0, 0
+    .word 0x0ab77863  # bgeu x14, x11, 176
+    .word 0x00270333  # add x6, x14, x2
     .word 0x00434303  # lbu x6, 4(x6)
-    .word 0x0065c5b3  # xor x11, x11, x6
-    .word 0x0015d293  # srli x5, x11, 1
-    .word 0x0015f393  # andi x7, x11, 1
+    .word 0x00664633  # xor x12, x12, x6
+    .word 0x00165293  # srli x5, x12, 1
+    .word 0x00167393  # andi x7, x12, 1
     .word 0x407003b3  # sub x7, x0, x7
-    .word 0x00767333  # and x6, x12, x7
-    .word 0x0062c5b3  # xor x11, x5, x6
-    .word 0x0015d293  # srli x5, x11, 1
-    .word 0x0015f393  # andi x7, x11, 1
+    .word 0x0076f333  # and x6, x13, x7
+    .word 0x0062c633  # xor x12, x5, x6
+    .word 0x00165293  # srli x5, x12, 1
+    .word 0x00167393  # andi x7, x12, 1
     .word 0x407003b3  # sub x7, x0, x7
-    .word 0x00767333  # and x6, x12, x7
-    .word 0x0062c5b3  # xor x11, x5, x6
-    .word 0x0015d293  # srli x5, x11, 1
-    .word 0x0015f393  # andi x7, x11, 1
+    .word 0x0076f333  # and x6, x13, x7
+    .word 0x0062c633  # xor x12, x5, x6
+    .word 0x00165293  # srli x5, x12, 1
+    .word 0x00167393  # andi x7, x12, 1
     .word 0x407003b3  # sub x7, x0, x7
-    .word 0x00767333  # and x6, x12, x7
-    .word 0x0062c5b3  # xor x11, x5, x6
-    .word 0x0015d293  # srli x5, x11, 1
-    .word 0x0015f393  # andi x7, x11, 1
+    .word 0x0076f333  # and x6, x13, x7
+    .word 0x0062c633  # xor x12, x5, x6
+    .word 0x00165293  # srli x5, x12, 1
+    .word 0x00167393  # andi x7, x12, 1
     .word 0x407003b3  # sub x7, x0, x7
-    .word 0x00767333  # and x6, x12, x7
-    .word 0x0062c5b3  # xor x11, x5, x6
-    .word 0x0015d293  # srli x5, x11, 1
-    .word 0x0015f393  # andi x7, x11, 1
+    .word 0x0076f333  # and x6, x13, x7
+    .word 0x0062c633  # xor x12, x5, x6
+    .word 0x00165293  # srli x5, x12, 1
+    .word 0x00167393  # andi x7, x12, 1
     .word 0x407003b3  # sub x7, x0, x7
-    .word 0x00767333  # and x6, x12, x7
-    .word 0x0062c5b3  # xor x11, x5, x6
-    .word 0x0015d293  # srli x5, x11, 1
-    .word 0x0015f393  # andi x7, x11, 1
+    .word 0x0076f333  # and x6, x13, x7
+    .word 0x0062c633  # xor x12, x5, x6
+    .word 0x00165293  # srli x5, x12, 1
+    .word 0x00167393  # andi x7, x12, 1
     .word 0x407003b3  # sub x7, x0, x7
-    .word 0x00767333  # and x6, x12, x7
-    .word 0x0062c5b3  # xor x11, x5, x6
-    .word 0x0015d293  # srli x5, x11, 1
-    .word 0x0015f393  # andi x7, x11, 1
+    .word 0x0076f333  # and x6, x13, x7
+    .word 0x0062c633  # xor x12, x5, x6
+    .word 0x00165293  # srli x5, x12, 1
+    .word 0x00167393  # andi x7, x12, 1
     .word 0x407003b3  # sub x7, x0, x7
-    .word 0x00767333  # and x6, x12, x7
-    .word 0x0062c5b3  # xor x11, x5, x6
-    .word 0x0015d293  # srli x5, x11, 1
-    .word 0x0015f393  # andi x7, x11, 1
+    .word 0x0076f333  # and x6, x13, x7
+    .word 0x0062c633  # xor x12, x5, x6
+    .word 0x00165293  # srli x5, x12, 1
+    .word 0x00167393  # andi x7, x12, 1
     .word 0x407003b3  # sub x7, x0, x7
-    .word 0x00767333  # and x6, x12, x7
-    .word 0x0062c5b3  # xor x11, x5, x6
-    .word 0x00168693  # addi x13, x13, 1
-    .word 0x0406b293  # sltiu x5, x13, 64
+    .word 0x0076f333  # and x6, x13, x7
+    .word 0x0062c633  # xor x12, x5, x6
+    .word 0x00170713  # addi x14, x14, 1
+    .word 0x04073293  # sltiu x5, x14, 64
     .word 0xf40294e3  # bne x5, x0, -184
-    .word 0xfff68693  # addi x13, x13, -1
-    .word 0xfff5c293  # xori x5, x11, -1
+    .word 0xfff70713  # addi x14, x14, -1
+    .word 0xfff64293  # xori x5, x12, -1
     .word 0x04512423  # sw x5, 72(x2)
     # the result
     .word 0x04812503  # lw x10, 72(x2)
     # above the frame
     .word 0x06010293  # addi x5, x2, 96
     # the caller's registers
-    .word 0x0002a483  # lw x9, 0(x5)
-    .cfi_restore 9
     # the caller's x2
-    .word 0x01028293  # addi x5, x5, 16
+    .word 0x00028293  # addi x5, x5, 0
     .cfi_def_cfa 5, 0
     # all the room, wiped upward
     .word 0x00012023  # sw x0, 0(x2)
@@ -123,16 +97,7 @@ crc32:
     .word 0x00012423  # sw x0, 8(x2)
     .word 0x00012623  # sw x0, 12(x2)
     .word 0x01010113  # addi x2, x2, 16
-    .word 0x00012023  # sw x0, 0(x2)
-    .word 0x00012223  # sw x0, 4(x2)
-    .word 0x00012423  # sw x0, 8(x2)
-    .word 0x00012623  # sw x0, 12(x2)
-    .word 0x00012823  # sw x0, 16(x2)
-    .word 0x00012a23  # sw x0, 20(x2)
-    .word 0x00012c23  # sw x0, 24(x2)
-    .word 0x00012e23  # sw x0, 28(x2)
-    .word 0x02010113  # addi x2, x2, 32
-    .word 0xfc511ee3  # bne x2, x5, -36
+    .word 0xfe5116e3  # bne x2, x5, -20
     .cfi_def_cfa 2, 0
     # temporaries, wiped
     .word 0x00000293  # addi x5, x0, 0
@@ -151,6 +116,29 @@ crc32:
     .word 0x00000f93  # addi x31, x0, 0
     # back
     .word 0x00008067  # jalr x0, 0(x1)
+    # from x5 to x6 up to x7, and back
+    .cfi_def_cfa 2, 96
+    .word 0x0062ee33  # or x28, x5, x6
+    .word 0x003e7e13  # andi x28, x28, 3
+    .word 0x000e0e63  # beq x28, x0, 28
+    .word 0x0002ce03  # lbu x28, 0(x5)
+    .word 0x01c30023  # sb x28, 0(x6)
+    .word 0x00128293  # addi x5, x5, 1
+    .word 0x00130313  # addi x6, x6, 1
+    .word 0xfe7298e3  # bne x5, x7, -16
+    .word 0x0300006f  # jal x0, 48
+    .word 0x0002ae03  # lw x28, 0(x5)
+    .word 0x01c32023  # sw x28, 0(x6)
+    .word 0x0042ae03  # lw x28, 4(x5)
+    .word 0x01c32223  # sw x28, 4(x6)
+    .word 0x0082ae03  # lw x28, 8(x5)
+    .word 0x01c32423  # sw x28, 8(x6)
+    .word 0x00c2ae03  # lw x28, 12(x5)
+    .word 0x01c32623  # sw x28, 12(x6)
+    .word 0x01028293  # addi x5, x5, 16
+    .word 0x01030313  # addi x6, x6, 16
+    .word 0xfc729ce3  # bne x5, x7, -40
+    .word 0x000f0067  # jalr x0, 0(x30)
     .cfi_endproc
     .size crc32, . - crc32
     .option pop

@@ -1,4 +1,4 @@
-# divide_32: made by factc 1.0.0 function; 103 words, 64 bytes of stack, profile 1
+# divide_32: made by factc 1.0.0 function; 60 words, 48 bytes of stack, profile 1
     .option push
     .option norvc
     .option norelax
@@ -10,113 +10,66 @@
 divide_32:
     .cfi_startproc
     # room above the frame
-    .word 0xfe010113  # addi x2, x2, -32
-    .cfi_def_cfa_offset 32
+    .word 0xff010113  # addi x2, x2, -16
+    .cfi_def_cfa_offset 16
     # the caller's registers
-    .word 0x00812023  # sw x8, 0(x2)
-    .cfi_offset 8, -32
-    .word 0x00912223  # sw x9, 4(x2)
-    .cfi_offset 9, -28
     # arguments that are needed behind the body
-    .word 0x00a12a23  # sw x10, 20(x2)
-    .word 0x00b12c23  # sw x11, 24(x2)
-    .word 0x00c12e23  # sw x12, 28(x2)
+    .word 0x00a12223  # sw x10, 4(x2)
+    .word 0x00b12423  # sw x11, 8(x2)
+    .word 0x00c12623  # sw x12, 12(x2)
     # the frame's base
     .word 0xfe010113  # addi x2, x2, -32
-    .cfi_def_cfa 2, 64
+    .cfi_def_cfa 2, 48
     # parameter 0: a word
     .word 0x00a12023  # sw x10, 0(x2)
     # parameter 1: a word
     .word 0x00b12223  # sw x11, 4(x2)
     # the body
-    .word 0x00012403  # lw x8, 0(x2)
-    .word 0x00412483  # lw x9, 4(x2)
-    .word 0x00000613  # addi x12, x0, 0
-    .word 0x00000693  # addi x13, x0, 0
+    .word 0x00012503  # lw x10, 0(x2)
+    .word 0x00412583  # lw x11, 4(x2)
     .word 0x00000713  # addi x14, x0, 0
-    .word 0x00000513  # addi x10, x0, 0
-    .word 0x00040593  # addi x11, x8, 0
     .word 0x00000613  # addi x12, x0, 0
-    .word 0x01f55713  # srli x14, x10, 31
-    .word 0x00151293  # slli x5, x10, 1
-    .word 0x01f5d313  # srli x6, x11, 31
-    .word 0x0062e533  # or x10, x5, x6
-    .word 0x009536b3  # sltu x13, x10, x9
-    .word 0x00d732b3  # sltu x5, x14, x13
-    .word 0xfff28713  # addi x14, x5, -1
-    .word 0x00e4f333  # and x6, x9, x14
-    .word 0x40650533  # sub x10, x10, x6
-    .word 0x00159293  # slli x5, x11, 1
-    .word 0x40e285b3  # sub x11, x5, x14
-    .word 0x01f55713  # srli x14, x10, 31
-    .word 0x00151293  # slli x5, x10, 1
-    .word 0x01f5d313  # srli x6, x11, 31
-    .word 0x0062e533  # or x10, x5, x6
-    .word 0x009536b3  # sltu x13, x10, x9
-    .word 0x00d732b3  # sltu x5, x14, x13
-    .word 0xfff28713  # addi x14, x5, -1
-    .word 0x00e4f333  # and x6, x9, x14
-    .word 0x40650533  # sub x10, x10, x6
-    .word 0x00159293  # slli x5, x11, 1
-    .word 0x40e285b3  # sub x11, x5, x14
-    .word 0x01f55713  # srli x14, x10, 31
-    .word 0x00151293  # slli x5, x10, 1
-    .word 0x01f5d313  # srli x6, x11, 31
-    .word 0x0062e533  # or x10, x5, x6
-    .word 0x009536b3  # sltu x13, x10, x9
-    .word 0x00d732b3  # sltu x5, x14, x13
-    .word 0xfff28713  # addi x14, x5, -1
-    .word 0x00e4f333  # and x6, x9, x14
-    .word 0x40650533  # sub x10, x10, x6
-    .word 0x00159293  # slli x5, x11, 1
-    .word 0x40e285b3  # sub x11, x5, x14
-    .word 0x01f55713  # srli x14, x10, 31
-    .word 0x00151293  # slli x5, x10, 1
-    .word 0x01f5d313  # srli x6, x11, 31
-    .word 0x0062e533  # or x10, x5, x6
-    .word 0x009536b3  # sltu x13, x10, x9
-    .word 0x00d732b3  # sltu x5, x14, x13
-    .word 0xfff28713  # addi x14, x5, -1
-    .word 0x00e4f333  # and x6, x9, x14
-    .word 0x40650533  # sub x10, x10, x6
-    .word 0x00159293  # slli x5, x11, 1
-    .word 0x40e285b3  # sub x11, x5, x14
-    .word 0x00160613  # addi x12, x12, 1
-    .word 0x00863293  # sltiu x5, x12, 8
-    .word 0xf40294e3  # bne x5, x0, -184
-    .word 0xfff60613  # addi x12, x12, -1
-    .word 0x00b12423  # sw x11, 8(x2)
-    .word 0x00a12623  # sw x10, 12(x2)
+    .word 0x00050693  # addi x13, x10, 0
+    .word 0x00000713  # addi x14, x0, 0
+    .word 0x01f65813  # srli x16, x12, 31
+    .word 0x00161293  # slli x5, x12, 1
+    .word 0x01f6d313  # srli x6, x13, 31
+    .word 0x0062e633  # or x12, x5, x6
+    .word 0x00b637b3  # sltu x15, x12, x11
+    .word 0x00f832b3  # sltu x5, x16, x15
+    .word 0xfff28813  # addi x16, x5, -1
+    .word 0x0105f333  # and x6, x11, x16
+    .word 0x40660633  # sub x12, x12, x6
+    .word 0x00169293  # slli x5, x13, 1
+    .word 0x410286b3  # sub x13, x5, x16
+    .word 0x00170713  # addi x14, x14, 1
+    .word 0x02073293  # sltiu x5, x14, 32
+    .word 0xfc0296e3  # bne x5, x0, -52
+    .word 0xfff70713  # addi x14, x14, -1
+    .word 0x00d12423  # sw x13, 8(x2)
+    .word 0x00c12623  # sw x12, 12(x2)
     # the result
     .word 0x00000513  # addi x10, x0, 0
     # parameter 2: the array, back
-    .word 0x03c12283  # lw x5, 60(x2)
-    .word 0x00810313  # addi x6, x2, 8
-    .word 0x00032e03  # lw x28, 0(x6)
-    .word 0x01c2a023  # sw x28, 0(x5)
-    .word 0x00432e03  # lw x28, 4(x6)
-    .word 0x01c2a223  # sw x28, 4(x5)
+    .word 0x00810293  # addi x5, x2, 8
+    .word 0x02c12303  # lw x6, 44(x2)
+    .word 0x0002ae03  # lw x28, 0(x5)
+    .word 0x01c32023  # sw x28, 0(x6)
+    .word 0x0042ae03  # lw x28, 4(x5)
+    .word 0x01c32223  # sw x28, 4(x6)
     # above the frame
     .word 0x02010293  # addi x5, x2, 32
     # the caller's registers
-    .word 0x0002a403  # lw x8, 0(x5)
-    .cfi_restore 8
-    .word 0x0042a483  # lw x9, 4(x5)
-    .cfi_restore 9
     # the caller's x2
-    .word 0x02028293  # addi x5, x5, 32
+    .word 0x01028293  # addi x5, x5, 16
     .cfi_def_cfa 5, 0
     # all the room, wiped upward
     .word 0x00012023  # sw x0, 0(x2)
     .word 0x00012223  # sw x0, 4(x2)
     .word 0x00012423  # sw x0, 8(x2)
     .word 0x00012623  # sw x0, 12(x2)
-    .word 0x00012823  # sw x0, 16(x2)
-    .word 0x00012a23  # sw x0, 20(x2)
-    .word 0x00012c23  # sw x0, 24(x2)
-    .word 0x00012e23  # sw x0, 28(x2)
-    .word 0x02010113  # addi x2, x2, 32
-    .word 0xfc511ee3  # bne x2, x5, -36
+    .word 0x01010113  # addi x2, x2, 16
+    .word 0xfe5116e3  # bne x2, x5, -20
     .cfi_def_cfa 2, 0
     # temporaries, wiped
     .word 0x00000293  # addi x5, x0, 0

@@ -1,4 +1,4 @@
-# equal_16: made by factc 1.0.0 function; 137 words, 64 bytes of stack, profile 1
+# equal_16: made by factc 1.0.0 function; 81 words, 48 bytes of stack, profile 1
     .option push
     .option norvc
     .option norelax
@@ -10,144 +10,65 @@
 equal_16:
     .cfi_startproc
     # room above the frame
-    .word 0xff010113  # addi x2, x2, -16
-    .cfi_def_cfa_offset 16
+    .cfi_def_cfa_offset 0
     # the caller's registers
-    .word 0x00812023  # sw x8, 0(x2)
-    .cfi_offset 8, -16
     # arguments that are needed behind the body
     # the frame's base
     .word 0xfd010113  # addi x2, x2, -48
-    .cfi_def_cfa 2, 64
+    .cfi_def_cfa 2, 48
     # parameter 0: an array
     .word 0x00050293  # addi x5, x10, 0
     .word 0x00010313  # addi x6, x2, 0
-    .word 0x0032fe13  # andi x28, x5, 3
-    .word 0x020e0263  # beq x28, x0, 36
-    .word 0x01000393  # addi x7, x0, 16
-    .word 0x005383b3  # add x7, x7, x5
-    .word 0x0002ce03  # lbu x28, 0(x5)
-    .word 0x01c30023  # sb x28, 0(x6)
-    .word 0x00128293  # addi x5, x5, 1
-    .word 0x00130313  # addi x6, x6, 1
-    .word 0xfe7298e3  # bne x5, x7, -16
-    .word 0x0240006f  # jal x0, 36
-    .word 0x0002ae03  # lw x28, 0(x5)
-    .word 0x01c32023  # sw x28, 0(x6)
-    .word 0x0042ae03  # lw x28, 4(x5)
-    .word 0x01c32223  # sw x28, 4(x6)
-    .word 0x0082ae03  # lw x28, 8(x5)
-    .word 0x01c32423  # sw x28, 8(x6)
-    .word 0x00c2ae03  # lw x28, 12(x5)
-    .word 0x01c32623  # sw x28, 12(x6)
+    .word 0x01028393  # addi x7, x5, 16
+    .word 0x0e000f6f  # jal x30, 224
     # parameter 1: an array
     .word 0x00058293  # addi x5, x11, 0
     .word 0x01010313  # addi x6, x2, 16
-    .word 0x0032fe13  # andi x28, x5, 3
-    .word 0x020e0263  # beq x28, x0, 36
-    .word 0x01000393  # addi x7, x0, 16
-    .word 0x005383b3  # add x7, x7, x5
-    .word 0x0002ce03  # lbu x28, 0(x5)
-    .word 0x01c30023  # sb x28, 0(x6)
-    .word 0x00128293  # addi x5, x5, 1
-    .word 0x00130313  # addi x6, x6, 1
-    .word 0xfe7298e3  # bne x5, x7, -16
-    .word 0x0240006f  # jal x0, 36
-    .word 0x0002ae03  # lw x28, 0(x5)
-    .word 0x01c32023  # sw x28, 0(x6)
-    .word 0x0042ae03  # lw x28, 4(x5)
-    .word 0x01c32223  # sw x28, 4(x6)
-    .word 0x0082ae03  # lw x28, 8(x5)
-    .word 0x01c32423  # sw x28, 8(x6)
-    .word 0x00c2ae03  # lw x28, 12(x5)
-    .word 0x01c32623  # sw x28, 12(x6)
+    .word 0x01028393  # addi x7, x5, 16
+    .word 0x0d000f6f  # jal x30, 208
     # the body
-    .word 0x00014283  # lbu x5, 0(x2)
-    .word 0x01014303  # lbu x6, 16(x2)
-    .word 0x0062c433  # xor x8, x5, x6
-    .word 0x00114303  # lbu x6, 1(x2)
-    .word 0x01114383  # lbu x7, 17(x2)
+    .word 0x00000593  # addi x11, x0, 0
+    .word 0x00000513  # addi x10, x0, 0
+    .word 0x00000593  # addi x11, x0, 0
+    .word 0x00259613  # slli x12, x11, 2
+    .word 0x002606b3  # add x13, x12, x2
+    .word 0x0006c303  # lbu x6, 0(x13)
+    .word 0x0106c383  # lbu x7, 16(x13)
     .word 0x00734333  # xor x6, x6, x7
-    .word 0x00646433  # or x8, x8, x6
-    .word 0x00214303  # lbu x6, 2(x2)
-    .word 0x01214383  # lbu x7, 18(x2)
+    .word 0x00656533  # or x10, x10, x6
+    .word 0x0016c303  # lbu x6, 1(x13)
+    .word 0x0116c383  # lbu x7, 17(x13)
     .word 0x00734333  # xor x6, x6, x7
-    .word 0x00646433  # or x8, x8, x6
-    .word 0x00314303  # lbu x6, 3(x2)
-    .word 0x01314383  # lbu x7, 19(x2)
+    .word 0x00656533  # or x10, x10, x6
+    .word 0x0026c303  # lbu x6, 2(x13)
+    .word 0x0126c383  # lbu x7, 18(x13)
     .word 0x00734333  # xor x6, x6, x7
-    .word 0x00646433  # or x8, x8, x6
-    .word 0x00414303  # lbu x6, 4(x2)
-    .word 0x01414383  # lbu x7, 20(x2)
+    .word 0x00656533  # or x10, x10, x6
+    .word 0x0036c303  # lbu x6, 3(x13)
+    .word 0x0136c383  # lbu x7, 19(x13)
     .word 0x00734333  # xor x6, x6, x7
-    .word 0x00646433  # or x8, x8, x6
-    .word 0x00514303  # lbu x6, 5(x2)
-    .word 0x01514383  # lbu x7, 21(x2)
-    .word 0x00734333  # xor x6, x6, x7
-    .word 0x00646433  # or x8, x8, x6
-    .word 0x00614303  # lbu x6, 6(x2)
-    .word 0x01614383  # lbu x7, 22(x2)
-    .word 0x00734333  # xor x6, x6, x7
-    .word 0x00646433  # or x8, x8, x6
-    .word 0x00714303  # lbu x6, 7(x2)
-    .word 0x01714383  # lbu x7, 23(x2)
-    .word 0x00734333  # xor x6, x6, x7
-    .word 0x00646433  # or x8, x8, x6
-    .word 0x00814303  # lbu x6, 8(x2)
-    .word 0x01814383  # lbu x7, 24(x2)
-    .word 0x00734333  # xor x6, x6, x7
-    .word 0x00646433  # or x8, x8, x6
-    .word 0x00914303  # lbu x6, 9(x2)
-    .word 0x01914383  # lbu x7, 25(x2)
-    .word 0x00734333  # xor x6, x6, x7
-    .word 0x00646433  # or x8, x8, x6
-    .word 0x00a14303  # lbu x6, 10(x2)
-    .word 0x01a14383  # lbu x7, 26(x2)
-    .word 0x00734333  # xor x6, x6, x7
-    .word 0x00646433  # or x8, x8, x6
-    .word 0x00b14303  # lbu x6, 11(x2)
-    .word 0x01b14383  # lbu x7, 27(x2)
-    .word 0x00734333  # xor x6, x6, x7
-    .word 0x00646433  # or x8, x8, x6
-    .word 0x00c14303  # lbu x6, 12(x2)
-    .word 0x01c14383  # lbu x7, 28(x2)
-    .word 0x00734333  # xor x6, x6, x7
-    .word 0x00646433  # or x8, x8, x6
-    .word 0x00d14303  # lbu x6, 13(x2)
-    .word 0x01d14383  # lbu x7, 29(x2)
-    .word 0x00734333  # xor x6, x6, x7
-    .word 0x00646433  # or x8, x8, x6
-    .word 0x00e14303  # lbu x6, 14(x2)
-    .word 0x01e14383  # lbu x7, 30(x2)
-    .word 0x00734333  # xor x6, x6, x7
-    .word 0x00646433  # or x8, x8, x6
-    .word 0x00f14303  # lbu x6, 15(x2)
-    .word 0x01f14383  # lbu x7, 31(x2)
-    .word 0x00734333  # xor x6, x6, x7
-    .word 0x00646433  # or x8, x8, x6
-    .word 0x00143293  # sltiu x5, x8, 1
+    .word 0x00656533  # or x10, x10, x6
+    .word 0x00158593  # addi x11, x11, 1
+    .word 0x0045b293  # sltiu x5, x11, 4
+    .word 0xfa0298e3  # bne x5, x0, -80
+    .word 0xfff58593  # addi x11, x11, -1
+    .word 0x00153293  # sltiu x5, x10, 1
     .word 0x02512023  # sw x5, 32(x2)
     # the result
     .word 0x02012503  # lw x10, 32(x2)
     # above the frame
     .word 0x03010293  # addi x5, x2, 48
     # the caller's registers
-    .word 0x0002a403  # lw x8, 0(x5)
-    .cfi_restore 8
     # the caller's x2
-    .word 0x01028293  # addi x5, x5, 16
+    .word 0x00028293  # addi x5, x5, 0
     .cfi_def_cfa 5, 0
     # all the room, wiped upward
     .word 0x00012023  # sw x0, 0(x2)
     .word 0x00012223  # sw x0, 4(x2)
     .word 0x00012423  # sw x0, 8(x2)
     .word 0x00012623  # sw x0, 12(x2)
-    .word 0x00012823  # sw x0, 16(x2)
-    .word 0x00012a23  # sw x0, 20(x2)
-    .word 0x00012c23  # sw x0, 24(x2)
-    .word 0x00012e23  # sw x0, 28(x2)
-    .word 0x02010113  # addi x2, x2, 32
-    .word 0xfc511ee3  # bne x2, x5, -36
+    .word 0x01010113  # addi x2, x2, 16
+    .word 0xfe5116e3  # bne x2, x5, -20
     .cfi_def_cfa 2, 0
     # temporaries, wiped
     .word 0x00000293  # addi x5, x0, 0
@@ -166,6 +87,29 @@ equal_16:
     .word 0x00000f93  # addi x31, x0, 0
     # back
     .word 0x00008067  # jalr x0, 0(x1)
+    # from x5 to x6 up to x7, and back
+    .cfi_def_cfa 2, 48
+    .word 0x0062ee33  # or x28, x5, x6
+    .word 0x003e7e13  # andi x28, x28, 3
+    .word 0x000e0e63  # beq x28, x0, 28
+    .word 0x0002ce03  # lbu x28, 0(x5)
+    .word 0x01c30023  # sb x28, 0(x6)
+    .word 0x00128293  # addi x5, x5, 1
+    .word 0x00130313  # addi x6, x6, 1
+    .word 0xfe7298e3  # bne x5, x7, -16
+    .word 0x0300006f  # jal x0, 48
+    .word 0x0002ae03  # lw x28, 0(x5)
+    .word 0x01c32023  # sw x28, 0(x6)
+    .word 0x0042ae03  # lw x28, 4(x5)
+    .word 0x01c32223  # sw x28, 4(x6)
+    .word 0x0082ae03  # lw x28, 8(x5)
+    .word 0x01c32423  # sw x28, 8(x6)
+    .word 0x00c2ae03  # lw x28, 12(x5)
+    .word 0x01c32623  # sw x28, 12(x6)
+    .word 0x01028293  # addi x5, x5, 16
+    .word 0x01030313  # addi x6, x6, 16
+    .word 0xfc729ce3  # bne x5, x7, -40
+    .word 0x000f0067  # jalr x0, 0(x30)
     .cfi_endproc
     .size equal_16, . - equal_16
     .option pop

@@ -1,4 +1,4 @@
-# f25519_add: made by factc 1.0.0 function; 237 words, 160 bytes of stack, profile 1
+# f25519_add: made by factc 1.0.0 function; 212 words, 160 bytes of stack, profile 1
     .option push
     .option norvc
     .option norelax
@@ -13,24 +13,24 @@ f25519_add:
     .word 0xfd010113  # addi x2, x2, -48
     .cfi_def_cfa_offset 48
     # the caller's registers
-    .word 0x00912023  # sw x9, 0(x2)
-    .cfi_offset 9, -48
-    .word 0x01212223  # sw x18, 4(x2)
-    .cfi_offset 18, -44
-    .word 0x01312423  # sw x19, 8(x2)
-    .cfi_offset 19, -40
-    .word 0x01412623  # sw x20, 12(x2)
-    .cfi_offset 20, -36
-    .word 0x01512823  # sw x21, 16(x2)
-    .cfi_offset 21, -32
-    .word 0x01612a23  # sw x22, 20(x2)
-    .cfi_offset 22, -28
-    .word 0x01712c23  # sw x23, 24(x2)
-    .cfi_offset 23, -24
-    .word 0x01812e23  # sw x24, 28(x2)
-    .cfi_offset 24, -20
-    .word 0x03912023  # sw x25, 32(x2)
-    .cfi_offset 25, -16
+    .word 0x01212023  # sw x18, 0(x2)
+    .cfi_offset 18, -48
+    .word 0x01312223  # sw x19, 4(x2)
+    .cfi_offset 19, -44
+    .word 0x01412423  # sw x20, 8(x2)
+    .cfi_offset 20, -40
+    .word 0x01512623  # sw x21, 12(x2)
+    .cfi_offset 21, -36
+    .word 0x01612823  # sw x22, 16(x2)
+    .cfi_offset 22, -32
+    .word 0x01712a23  # sw x23, 20(x2)
+    .cfi_offset 23, -28
+    .word 0x01812c23  # sw x24, 24(x2)
+    .cfi_offset 24, -24
+    .word 0x01912e23  # sw x25, 28(x2)
+    .cfi_offset 25, -20
+    .word 0x03a12023  # sw x26, 32(x2)
+    .cfi_offset 26, -16
     # arguments that are needed behind the body
     .word 0x02a12223  # sw x10, 36(x2)
     .word 0x02b12423  # sw x11, 40(x2)
@@ -41,216 +41,174 @@ f25519_add:
     # parameter 0: an array
     .word 0x00050293  # addi x5, x10, 0
     .word 0x00010313  # addi x6, x2, 0
-    .word 0x0002ae03  # lw x28, 0(x5)
-    .word 0x01c32023  # sw x28, 0(x6)
-    .word 0x0042ae03  # lw x28, 4(x5)
-    .word 0x01c32223  # sw x28, 4(x6)
-    .word 0x0082ae03  # lw x28, 8(x5)
-    .word 0x01c32423  # sw x28, 8(x6)
-    .word 0x00c2ae03  # lw x28, 12(x5)
-    .word 0x01c32623  # sw x28, 12(x6)
-    .word 0x0102ae03  # lw x28, 16(x5)
-    .word 0x01c32823  # sw x28, 16(x6)
-    .word 0x0142ae03  # lw x28, 20(x5)
-    .word 0x01c32a23  # sw x28, 20(x6)
-    .word 0x0182ae03  # lw x28, 24(x5)
-    .word 0x01c32c23  # sw x28, 24(x6)
-    .word 0x01c2ae03  # lw x28, 28(x5)
-    .word 0x01c32e23  # sw x28, 28(x6)
+    .word 0x02028393  # addi x7, x5, 32
+    .word 0x2b800f6f  # jal x30, 696
     # parameter 1: an array
     .word 0x00058293  # addi x5, x11, 0
     .word 0x02010313  # addi x6, x2, 32
-    .word 0x0002ae03  # lw x28, 0(x5)
-    .word 0x01c32023  # sw x28, 0(x6)
-    .word 0x0042ae03  # lw x28, 4(x5)
-    .word 0x01c32223  # sw x28, 4(x6)
-    .word 0x0082ae03  # lw x28, 8(x5)
-    .word 0x01c32423  # sw x28, 8(x6)
-    .word 0x00c2ae03  # lw x28, 12(x5)
-    .word 0x01c32623  # sw x28, 12(x6)
-    .word 0x0102ae03  # lw x28, 16(x5)
-    .word 0x01c32823  # sw x28, 16(x6)
-    .word 0x0142ae03  # lw x28, 20(x5)
-    .word 0x01c32a23  # sw x28, 20(x6)
-    .word 0x0182ae03  # lw x28, 24(x5)
-    .word 0x01c32c23  # sw x28, 24(x6)
-    .word 0x01c2ae03  # lw x28, 28(x5)
-    .word 0x01c32e23  # sw x28, 28(x6)
+    .word 0x02028393  # addi x7, x5, 32
+    .word 0x2a800f6f  # jal x30, 680
     # the body
-    .word 0x00012483  # lw x9, 0(x2)
-    .word 0x02012503  # lw x10, 32(x2)
-    .word 0x00412c83  # lw x25, 4(x2)
-    .word 0x02412983  # lw x19, 36(x2)
-    .word 0x00812a83  # lw x21, 8(x2)
-    .word 0x02812a03  # lw x20, 40(x2)
-    .word 0x00c12b03  # lw x22, 12(x2)
-    .word 0x02c12683  # lw x13, 44(x2)
-    .word 0x01012b83  # lw x23, 16(x2)
-    .word 0x03012703  # lw x14, 48(x2)
-    .word 0x01412c03  # lw x24, 20(x2)
-    .word 0x03412783  # lw x15, 52(x2)
-    .word 0x01812583  # lw x11, 24(x2)
-    .word 0x03812803  # lw x16, 56(x2)
-    .word 0x01c12603  # lw x12, 28(x2)
-    .word 0x03c12883  # lw x17, 60(x2)
-    .word 0x00a48533  # add x10, x9, x10
-    .word 0x00050913  # addi x18, x10, 0
-    .word 0x009534b3  # sltu x9, x10, x9
-    .word 0x013c8533  # add x10, x25, x19
-    .word 0x009509b3  # add x19, x10, x9
-    .word 0x019532b3  # sltu x5, x10, x25
-    .word 0x0099b333  # sltu x6, x19, x9
-    .word 0x006284b3  # add x9, x5, x6
-    .word 0x014a8533  # add x10, x21, x20
-    .word 0x00950a33  # add x20, x10, x9
-    .word 0x015532b3  # sltu x5, x10, x21
-    .word 0x009a3333  # sltu x6, x20, x9
-    .word 0x006284b3  # add x9, x5, x6
-    .word 0x00db0533  # add x10, x22, x13
-    .word 0x00950ab3  # add x21, x10, x9
-    .word 0x016532b3  # sltu x5, x10, x22
-    .word 0x009ab333  # sltu x6, x21, x9
-    .word 0x006284b3  # add x9, x5, x6
-    .word 0x00eb8533  # add x10, x23, x14
-    .word 0x00950b33  # add x22, x10, x9
-    .word 0x017532b3  # sltu x5, x10, x23
-    .word 0x009b3333  # sltu x6, x22, x9
-    .word 0x006284b3  # add x9, x5, x6
-    .word 0x00fc0533  # add x10, x24, x15
-    .word 0x00950bb3  # add x23, x10, x9
-    .word 0x018532b3  # sltu x5, x10, x24
-    .word 0x009bb333  # sltu x6, x23, x9
-    .word 0x006284b3  # add x9, x5, x6
-    .word 0x01058533  # add x10, x11, x16
-    .word 0x00950c33  # add x24, x10, x9
-    .word 0x00b532b3  # sltu x5, x10, x11
-    .word 0x009c3333  # sltu x6, x24, x9
-    .word 0x006284b3  # add x9, x5, x6
-    .word 0x01160533  # add x10, x12, x17
-    .word 0x00950cb3  # add x25, x10, x9
-    .word 0x00c532b3  # sltu x5, x10, x12
-    .word 0x009cb333  # sltu x6, x25, x9
-    .word 0x006284b3  # add x9, x5, x6
+    .word 0x00012503  # lw x10, 0(x2)
+    .word 0x02012583  # lw x11, 32(x2)
+    .word 0x00412d03  # lw x26, 4(x2)
+    .word 0x02412a03  # lw x20, 36(x2)
+    .word 0x00812b03  # lw x22, 8(x2)
+    .word 0x02812a83  # lw x21, 40(x2)
+    .word 0x00c12b83  # lw x23, 12(x2)
+    .word 0x02c12703  # lw x14, 44(x2)
+    .word 0x01012c03  # lw x24, 16(x2)
+    .word 0x03012783  # lw x15, 48(x2)
+    .word 0x01412c83  # lw x25, 20(x2)
+    .word 0x03412803  # lw x16, 52(x2)
+    .word 0x01812603  # lw x12, 24(x2)
+    .word 0x03812883  # lw x17, 56(x2)
+    .word 0x01c12683  # lw x13, 28(x2)
+    .word 0x03c12903  # lw x18, 60(x2)
+    .word 0x00b505b3  # add x11, x10, x11
+    .word 0x00058993  # addi x19, x11, 0
+    .word 0x00a5b533  # sltu x10, x11, x10
+    .word 0x014d05b3  # add x11, x26, x20
+    .word 0x00a58a33  # add x20, x11, x10
+    .word 0x01a5b2b3  # sltu x5, x11, x26
+    .word 0x00aa3333  # sltu x6, x20, x10
+    .word 0x00628533  # add x10, x5, x6
+    .word 0x015b05b3  # add x11, x22, x21
+    .word 0x00a58ab3  # add x21, x11, x10
+    .word 0x0165b2b3  # sltu x5, x11, x22
+    .word 0x00aab333  # sltu x6, x21, x10
+    .word 0x00628533  # add x10, x5, x6
+    .word 0x00eb85b3  # add x11, x23, x14
+    .word 0x00a58b33  # add x22, x11, x10
+    .word 0x0175b2b3  # sltu x5, x11, x23
+    .word 0x00ab3333  # sltu x6, x22, x10
+    .word 0x00628533  # add x10, x5, x6
+    .word 0x00fc05b3  # add x11, x24, x15
+    .word 0x00a58bb3  # add x23, x11, x10
+    .word 0x0185b2b3  # sltu x5, x11, x24
+    .word 0x00abb333  # sltu x6, x23, x10
+    .word 0x00628533  # add x10, x5, x6
+    .word 0x010c85b3  # add x11, x25, x16
+    .word 0x00a58c33  # add x24, x11, x10
+    .word 0x0195b2b3  # sltu x5, x11, x25
+    .word 0x00ac3333  # sltu x6, x24, x10
+    .word 0x00628533  # add x10, x5, x6
+    .word 0x011605b3  # add x11, x12, x17
+    .word 0x00a58cb3  # add x25, x11, x10
+    .word 0x00c5b2b3  # sltu x5, x11, x12
+    .word 0x00acb333  # sltu x6, x25, x10
+    .word 0x00628533  # add x10, x5, x6
+    .word 0x012685b3  # add x11, x13, x18
+    .word 0x00a58d33  # add x26, x11, x10
+    .word 0x00d5b2b3  # sltu x5, x11, x13
+    .word 0x00ad3333  # sltu x6, x26, x10
+    .word 0x00628533  # add x10, x5, x6
     .word 0x01300293  # addi x5, x0, 19
-    .word 0x00149313  # slli x6, x9, 1
-    .word 0x01fcd393  # srli x7, x25, 31
+    .word 0x00151313  # slli x6, x10, 1
+    .word 0x01fd5393  # srli x7, x26, 31
     .word 0x00736333  # or x6, x6, x7
-    .word 0x026284b3  # mul x9, x5, x6
-    .word 0x001c9c93  # slli x25, x25, 1
-    .word 0x001cdc93  # srli x25, x25, 1
-    .word 0x00990933  # add x18, x18, x9
-    .word 0x009934b3  # sltu x9, x18, x9
-    .word 0x009989b3  # add x19, x19, x9
-    .word 0x0099b4b3  # sltu x9, x19, x9
-    .word 0x009a0a33  # add x20, x20, x9
-    .word 0x009a34b3  # sltu x9, x20, x9
-    .word 0x009a8ab3  # add x21, x21, x9
-    .word 0x009ab4b3  # sltu x9, x21, x9
-    .word 0x009b0b33  # add x22, x22, x9
-    .word 0x009b34b3  # sltu x9, x22, x9
-    .word 0x009b8bb3  # add x23, x23, x9
-    .word 0x009bb4b3  # sltu x9, x23, x9
-    .word 0x009c0c33  # add x24, x24, x9
-    .word 0x009c34b3  # sltu x9, x24, x9
-    .word 0x009c8cb3  # add x25, x25, x9
+    .word 0x02628533  # mul x10, x5, x6
+    .word 0x001d1d13  # slli x26, x26, 1
+    .word 0x001d5d13  # srli x26, x26, 1
+    .word 0x00a989b3  # add x19, x19, x10
+    .word 0x00a9b533  # sltu x10, x19, x10
+    .word 0x00aa0a33  # add x20, x20, x10
+    .word 0x00aa3533  # sltu x10, x20, x10
+    .word 0x00aa8ab3  # add x21, x21, x10
+    .word 0x00aab533  # sltu x10, x21, x10
+    .word 0x00ab0b33  # add x22, x22, x10
+    .word 0x00ab3533  # sltu x10, x22, x10
+    .word 0x00ab8bb3  # add x23, x23, x10
+    .word 0x00abb533  # sltu x10, x23, x10
+    .word 0x00ac0c33  # add x24, x24, x10
+    .word 0x00ac3533  # sltu x10, x24, x10
+    .word 0x00ac8cb3  # add x25, x25, x10
+    .word 0x00acb533  # sltu x10, x25, x10
+    .word 0x00ad0d33  # add x26, x26, x10
     .word 0x01300313  # addi x6, x0, 19
-    .word 0x01fcd393  # srli x7, x25, 31
+    .word 0x01fd5393  # srli x7, x26, 31
     .word 0x02730333  # mul x6, x6, x7
-    .word 0x00690933  # add x18, x18, x6
-    .word 0x001c9c93  # slli x25, x25, 1
-    .word 0x001cdc93  # srli x25, x25, 1
-    .word 0x01390293  # addi x5, x18, 19
-    .word 0x0132b493  # sltiu x9, x5, 19
-    .word 0x009982b3  # add x5, x19, x9
-    .word 0x0092b4b3  # sltu x9, x5, x9
-    .word 0x009a02b3  # add x5, x20, x9
-    .word 0x0092b4b3  # sltu x9, x5, x9
-    .word 0x009a82b3  # add x5, x21, x9
-    .word 0x0092b4b3  # sltu x9, x5, x9
-    .word 0x009b02b3  # add x5, x22, x9
-    .word 0x0092b4b3  # sltu x9, x5, x9
-    .word 0x009b82b3  # add x5, x23, x9
-    .word 0x0092b4b3  # sltu x9, x5, x9
-    .word 0x009c02b3  # add x5, x24, x9
-    .word 0x0092b4b3  # sltu x9, x5, x9
-    .word 0x009c82b3  # add x5, x25, x9
+    .word 0x006989b3  # add x19, x19, x6
+    .word 0x001d1d13  # slli x26, x26, 1
+    .word 0x001d5d13  # srli x26, x26, 1
+    .word 0x01398293  # addi x5, x19, 19
+    .word 0x0132b513  # sltiu x10, x5, 19
+    .word 0x00aa02b3  # add x5, x20, x10
+    .word 0x00a2b533  # sltu x10, x5, x10
+    .word 0x00aa82b3  # add x5, x21, x10
+    .word 0x00a2b533  # sltu x10, x5, x10
+    .word 0x00ab02b3  # add x5, x22, x10
+    .word 0x00a2b533  # sltu x10, x5, x10
+    .word 0x00ab82b3  # add x5, x23, x10
+    .word 0x00a2b533  # sltu x10, x5, x10
+    .word 0x00ac02b3  # add x5, x24, x10
+    .word 0x00a2b533  # sltu x10, x5, x10
+    .word 0x00ac82b3  # add x5, x25, x10
+    .word 0x00a2b533  # sltu x10, x5, x10
+    .word 0x00ad02b3  # add x5, x26, x10
     .word 0x01f2d293  # srli x5, x5, 31
     .word 0x405002b3  # sub x5, x0, x5
-    .word 0x0132f493  # andi x9, x5, 19
-    .word 0x00990533  # add x10, x18, x9
-    .word 0x009534b3  # sltu x9, x10, x9
-    .word 0x00050913  # addi x18, x10, 0
-    .word 0x00998533  # add x10, x19, x9
-    .word 0x009534b3  # sltu x9, x10, x9
-    .word 0x00050993  # addi x19, x10, 0
-    .word 0x009a0533  # add x10, x20, x9
-    .word 0x009534b3  # sltu x9, x10, x9
-    .word 0x00050a13  # addi x20, x10, 0
-    .word 0x009a8533  # add x10, x21, x9
-    .word 0x009534b3  # sltu x9, x10, x9
-    .word 0x00050a93  # addi x21, x10, 0
-    .word 0x009b0533  # add x10, x22, x9
-    .word 0x009534b3  # sltu x9, x10, x9
-    .word 0x00050b13  # addi x22, x10, 0
-    .word 0x009b8533  # add x10, x23, x9
-    .word 0x009534b3  # sltu x9, x10, x9
-    .word 0x00050b93  # addi x23, x10, 0
-    .word 0x009c0533  # add x10, x24, x9
-    .word 0x009534b3  # sltu x9, x10, x9
-    .word 0x00050c13  # addi x24, x10, 0
-    .word 0x009c8533  # add x10, x25, x9
-    .word 0x00151493  # slli x9, x10, 1
-    .word 0x0014d493  # srli x9, x9, 1
-    .word 0x05212023  # sw x18, 64(x2)
-    .word 0x05312223  # sw x19, 68(x2)
-    .word 0x05412423  # sw x20, 72(x2)
-    .word 0x05512623  # sw x21, 76(x2)
-    .word 0x05612823  # sw x22, 80(x2)
-    .word 0x05712a23  # sw x23, 84(x2)
-    .word 0x05812c23  # sw x24, 88(x2)
-    .word 0x04912e23  # sw x9, 92(x2)
+    .word 0x0132f513  # andi x10, x5, 19
+    .word 0x00a985b3  # add x11, x19, x10
+    .word 0x00a5b533  # sltu x10, x11, x10
+    .word 0x00058993  # addi x19, x11, 0
+    .word 0x00aa05b3  # add x11, x20, x10
+    .word 0x00a5b533  # sltu x10, x11, x10
+    .word 0x00058a13  # addi x20, x11, 0
+    .word 0x00aa85b3  # add x11, x21, x10
+    .word 0x00a5b533  # sltu x10, x11, x10
+    .word 0x00058a93  # addi x21, x11, 0
+    .word 0x00ab05b3  # add x11, x22, x10
+    .word 0x00a5b533  # sltu x10, x11, x10
+    .word 0x00058b13  # addi x22, x11, 0
+    .word 0x00ab85b3  # add x11, x23, x10
+    .word 0x00a5b533  # sltu x10, x11, x10
+    .word 0x00058b93  # addi x23, x11, 0
+    .word 0x00ac05b3  # add x11, x24, x10
+    .word 0x00a5b533  # sltu x10, x11, x10
+    .word 0x00058c13  # addi x24, x11, 0
+    .word 0x00ac85b3  # add x11, x25, x10
+    .word 0x00a5b533  # sltu x10, x11, x10
+    .word 0x00058c93  # addi x25, x11, 0
+    .word 0x00ad05b3  # add x11, x26, x10
+    .word 0x00159513  # slli x10, x11, 1
+    .word 0x00155513  # srli x10, x10, 1
+    .word 0x05312023  # sw x19, 64(x2)
+    .word 0x05412223  # sw x20, 68(x2)
+    .word 0x05512423  # sw x21, 72(x2)
+    .word 0x05612623  # sw x22, 76(x2)
+    .word 0x05712823  # sw x23, 80(x2)
+    .word 0x05812a23  # sw x24, 84(x2)
+    .word 0x05912c23  # sw x25, 88(x2)
+    .word 0x04a12e23  # sw x10, 92(x2)
     # the result
     .word 0x00000513  # addi x10, x0, 0
     # parameter 2: the array, back
-    .word 0x09c12283  # lw x5, 156(x2)
-    .word 0x04010313  # addi x6, x2, 64
-    .word 0x00032e03  # lw x28, 0(x6)
-    .word 0x01c2a023  # sw x28, 0(x5)
-    .word 0x00432e03  # lw x28, 4(x6)
-    .word 0x01c2a223  # sw x28, 4(x5)
-    .word 0x00832e03  # lw x28, 8(x6)
-    .word 0x01c2a423  # sw x28, 8(x5)
-    .word 0x00c32e03  # lw x28, 12(x6)
-    .word 0x01c2a623  # sw x28, 12(x5)
-    .word 0x01032e03  # lw x28, 16(x6)
-    .word 0x01c2a823  # sw x28, 16(x5)
-    .word 0x01432e03  # lw x28, 20(x6)
-    .word 0x01c2aa23  # sw x28, 20(x5)
-    .word 0x01832e03  # lw x28, 24(x6)
-    .word 0x01c2ac23  # sw x28, 24(x5)
-    .word 0x01c32e03  # lw x28, 28(x6)
-    .word 0x01c2ae23  # sw x28, 28(x5)
+    .word 0x04010293  # addi x5, x2, 64
+    .word 0x09c12303  # lw x6, 156(x2)
+    .word 0x02028393  # addi x7, x5, 32
+    .word 0x08400f6f  # jal x30, 132
     # above the frame
     .word 0x07010293  # addi x5, x2, 112
     # the caller's registers
-    .word 0x0002a483  # lw x9, 0(x5)
-    .cfi_restore 9
-    .word 0x0042a903  # lw x18, 4(x5)
+    .word 0x0002a903  # lw x18, 0(x5)
     .cfi_restore 18
-    .word 0x0082a983  # lw x19, 8(x5)
+    .word 0x0042a983  # lw x19, 4(x5)
     .cfi_restore 19
-    .word 0x00c2aa03  # lw x20, 12(x5)
+    .word 0x0082aa03  # lw x20, 8(x5)
     .cfi_restore 20
-    .word 0x0102aa83  # lw x21, 16(x5)
+    .word 0x00c2aa83  # lw x21, 12(x5)
     .cfi_restore 21
-    .word 0x0142ab03  # lw x22, 20(x5)
+    .word 0x0102ab03  # lw x22, 16(x5)
     .cfi_restore 22
-    .word 0x0182ab83  # lw x23, 24(x5)
+    .word 0x0142ab83  # lw x23, 20(x5)
     .cfi_restore 23
-    .word 0x01c2ac03  # lw x24, 28(x5)
+    .word 0x0182ac03  # lw x24, 24(x5)
     .cfi_restore 24
-    .word 0x0202ac83  # lw x25, 32(x5)
+    .word 0x01c2ac83  # lw x25, 28(x5)
     .cfi_restore 25
+    .word 0x0202ad03  # lw x26, 32(x5)
+    .cfi_restore 26
     # the caller's x2
     .word 0x03028293  # addi x5, x5, 48
     .cfi_def_cfa 5, 0
@@ -259,12 +217,8 @@ f25519_add:
     .word 0x00012223  # sw x0, 4(x2)
     .word 0x00012423  # sw x0, 8(x2)
     .word 0x00012623  # sw x0, 12(x2)
-    .word 0x00012823  # sw x0, 16(x2)
-    .word 0x00012a23  # sw x0, 20(x2)
-    .word 0x00012c23  # sw x0, 24(x2)
-    .word 0x00012e23  # sw x0, 28(x2)
-    .word 0x02010113  # addi x2, x2, 32
-    .word 0xfc511ee3  # bne x2, x5, -36
+    .word 0x01010113  # addi x2, x2, 16
+    .word 0xfe5116e3  # bne x2, x5, -20
     .cfi_def_cfa 2, 0
     # temporaries, wiped
     .word 0x00000293  # addi x5, x0, 0
@@ -283,6 +237,38 @@ f25519_add:
     .word 0x00000f93  # addi x31, x0, 0
     # back
     .word 0x00008067  # jalr x0, 0(x1)
+    # from x5 to x6 up to x7, and back
+    .cfi_def_cfa 2, 160
+    .cfi_offset 18, -48
+    .cfi_offset 19, -44
+    .cfi_offset 20, -40
+    .cfi_offset 21, -36
+    .cfi_offset 22, -32
+    .cfi_offset 23, -28
+    .cfi_offset 24, -24
+    .cfi_offset 25, -20
+    .cfi_offset 26, -16
+    .word 0x0062ee33  # or x28, x5, x6
+    .word 0x003e7e13  # andi x28, x28, 3
+    .word 0x000e0e63  # beq x28, x0, 28
+    .word 0x0002ce03  # lbu x28, 0(x5)
+    .word 0x01c30023  # sb x28, 0(x6)
+    .word 0x00128293  # addi x5, x5, 1
+    .word 0x00130313  # addi x6, x6, 1
+    .word 0xfe7298e3  # bne x5, x7, -16
+    .word 0x0300006f  # jal x0, 48
+    .word 0x0002ae03  # lw x28, 0(x5)
+    .word 0x01c32023  # sw x28, 0(x6)
+    .word 0x0042ae03  # lw x28, 4(x5)
+    .word 0x01c32223  # sw x28, 4(x6)
+    .word 0x0082ae03  # lw x28, 8(x5)
+    .word 0x01c32423  # sw x28, 8(x6)
+    .word 0x00c2ae03  # lw x28, 12(x5)
+    .word 0x01c32623  # sw x28, 12(x6)
+    .word 0x01028293  # addi x5, x5, 16
+    .word 0x01030313  # addi x6, x6, 16
+    .word 0xfc729ce3  # bne x5, x7, -40
+    .word 0x000f0067  # jalr x0, 0(x30)
     .cfi_endproc
     .size f25519_add, . - f25519_add
     .option pop

@@ -1,4 +1,4 @@
-# hmac_sha256: made by factc 1.0.0 function; 1933 words, 944 bytes of stack, profile 1
+# hmac_sha256: made by factc 1.0.0 function; 1853 words, 944 bytes of stack, profile 1
     .option push
     .option norvc
     .option norelax
@@ -57,86 +57,24 @@ hmac_sha256:
     # parameter 0: an array
     .word 0x00050293  # addi x5, x10, 0
     .word 0x00010313  # addi x6, x2, 0
-    .word 0x0032fe13  # andi x28, x5, 3
-    .word 0x020e0263  # beq x28, x0, 36
-    .word 0x04000393  # addi x7, x0, 64
-    .word 0x005383b3  # add x7, x7, x5
-    .word 0x0002ce03  # lbu x28, 0(x5)
-    .word 0x01c30023  # sb x28, 0(x6)
-    .word 0x00128293  # addi x5, x5, 1
-    .word 0x00130313  # addi x6, x6, 1
-    .word 0xfe7298e3  # bne x5, x7, -16
-    .word 0x0380006f  # jal x0, 56
-    .word 0x04000393  # addi x7, x0, 64
-    .word 0x005383b3  # add x7, x7, x5
-    .word 0x0002ae03  # lw x28, 0(x5)
-    .word 0x01c32023  # sw x28, 0(x6)
-    .word 0x0042ae03  # lw x28, 4(x5)
-    .word 0x01c32223  # sw x28, 4(x6)
-    .word 0x0082ae03  # lw x28, 8(x5)
-    .word 0x01c32423  # sw x28, 8(x6)
-    .word 0x00c2ae03  # lw x28, 12(x5)
-    .word 0x01c32623  # sw x28, 12(x6)
-    .word 0x01028293  # addi x5, x5, 16
-    .word 0x01030313  # addi x6, x6, 16
-    .word 0xfc729ce3  # bne x5, x7, -40
+    .word 0x04028393  # addi x7, x5, 64
+    .word 0x45101f6f  # jal x30, 7248
     # parameter 1: a word
     .word 0x04b12023  # sw x11, 64(x2)
     # parameter 2: an array
     .word 0x00060293  # addi x5, x12, 0
     .word 0x04410313  # addi x6, x2, 68
-    .word 0x0032fe13  # andi x28, x5, 3
-    .word 0x020e0263  # beq x28, x0, 36
-    .word 0x07700393  # addi x7, x0, 119
-    .word 0x005383b3  # add x7, x7, x5
+    .word 0x07428393  # addi x7, x5, 116
+    .word 0x43d01f6f  # jal x30, 7228
     .word 0x0002ce03  # lbu x28, 0(x5)
     .word 0x01c30023  # sb x28, 0(x6)
-    .word 0x00128293  # addi x5, x5, 1
-    .word 0x00130313  # addi x6, x6, 1
-    .word 0xfe7298e3  # bne x5, x7, -16
-    .word 0x0580006f  # jal x0, 88
-    .word 0x07000393  # addi x7, x0, 112
-    .word 0x005383b3  # add x7, x7, x5
-    .word 0x0002ae03  # lw x28, 0(x5)
-    .word 0x01c32023  # sw x28, 0(x6)
-    .word 0x0042ae03  # lw x28, 4(x5)
-    .word 0x01c32223  # sw x28, 4(x6)
-    .word 0x0082ae03  # lw x28, 8(x5)
-    .word 0x01c32423  # sw x28, 8(x6)
-    .word 0x00c2ae03  # lw x28, 12(x5)
-    .word 0x01c32623  # sw x28, 12(x6)
-    .word 0x01028293  # addi x5, x5, 16
-    .word 0x01030313  # addi x6, x6, 16
-    .word 0xfc729ce3  # bne x5, x7, -40
-    .word 0x0002ae03  # lw x28, 0(x5)
-    .word 0x01c32023  # sw x28, 0(x6)
-    .word 0x0042ce03  # lbu x28, 4(x5)
-    .word 0x01c30223  # sb x28, 4(x6)
-    .word 0x0052ce03  # lbu x28, 5(x5)
-    .word 0x01c302a3  # sb x28, 5(x6)
-    .word 0x0062ce03  # lbu x28, 6(x5)
-    .word 0x01c30323  # sb x28, 6(x6)
+    .word 0x0012ce03  # lbu x28, 1(x5)
+    .word 0x01c300a3  # sb x28, 1(x6)
+    .word 0x0022ce03  # lbu x28, 2(x5)
+    .word 0x01c30123  # sb x28, 2(x6)
     # parameter 3: a word
     .word 0x0ad12e23  # sw x13, 188(x2)
     # the body
-    .word 0x00000593  # addi x11, x0, 0
-    .word 0x00000613  # addi x12, x0, 0
-    .word 0x00000693  # addi x13, x0, 0
-    .word 0x00000713  # addi x14, x0, 0
-    .word 0x00000793  # addi x15, x0, 0
-    .word 0x00000813  # addi x16, x0, 0
-    .word 0x00000893  # addi x17, x0, 0
-    .word 0x00000913  # addi x18, x0, 0
-    .word 0x00000993  # addi x19, x0, 0
-    .word 0x00000a13  # addi x20, x0, 0
-    .word 0x00000a93  # addi x21, x0, 0
-    .word 0x00000b13  # addi x22, x0, 0
-    .word 0x00000b93  # addi x23, x0, 0
-    .word 0x00000c13  # addi x24, x0, 0
-    .word 0x00000c93  # addi x25, x0, 0
-    .word 0x00000d13  # addi x26, x0, 0
-    .word 0x002a1d93  # slli x27, x20, 2
-    .word 0x002d8db3  # add x27, x27, x2
     .word 0x800002b7  # lui x5, 0x80000
     .word 0x00028293  # addi x5, x5, 0
     .word 0x32512023  # sw x5, 800(x2)
@@ -1899,34 +1837,10 @@ hmac_sha256:
     # the result
     .word 0x00000513  # addi x10, x0, 0
     # parameter 4: the array, back
-    .word 0x3ac12283  # lw x5, 940(x2)
-    .word 0x0c010313  # addi x6, x2, 192
-    .word 0x0032fe13  # andi x28, x5, 3
-    .word 0x020e0263  # beq x28, x0, 36
-    .word 0x02000393  # addi x7, x0, 32
-    .word 0x005383b3  # add x7, x7, x5
-    .word 0x00034e03  # lbu x28, 0(x6)
-    .word 0x01c28023  # sb x28, 0(x5)
-    .word 0x00128293  # addi x5, x5, 1
-    .word 0x00130313  # addi x6, x6, 1
-    .word 0xfe7298e3  # bne x5, x7, -16
-    .word 0x0440006f  # jal x0, 68
-    .word 0x00032e03  # lw x28, 0(x6)
-    .word 0x01c2a023  # sw x28, 0(x5)
-    .word 0x00432e03  # lw x28, 4(x6)
-    .word 0x01c2a223  # sw x28, 4(x5)
-    .word 0x00832e03  # lw x28, 8(x6)
-    .word 0x01c2a423  # sw x28, 8(x5)
-    .word 0x00c32e03  # lw x28, 12(x6)
-    .word 0x01c2a623  # sw x28, 12(x5)
-    .word 0x01032e03  # lw x28, 16(x6)
-    .word 0x01c2a823  # sw x28, 16(x5)
-    .word 0x01432e03  # lw x28, 20(x6)
-    .word 0x01c2aa23  # sw x28, 20(x5)
-    .word 0x01832e03  # lw x28, 24(x6)
-    .word 0x01c2ac23  # sw x28, 24(x5)
-    .word 0x01c32e03  # lw x28, 28(x6)
-    .word 0x01c2ae23  # sw x28, 28(x5)
+    .word 0x0c010293  # addi x5, x2, 192
+    .word 0x3ac12303  # lw x6, 940(x2)
+    .word 0x02028393  # addi x7, x5, 32
+    .word 0x09000f6f  # jal x30, 144
     # above the frame
     .word 0x36010293  # addi x5, x2, 864
     # the caller's registers
@@ -1963,16 +1877,7 @@ hmac_sha256:
     .word 0x00012423  # sw x0, 8(x2)
     .word 0x00012623  # sw x0, 12(x2)
     .word 0x01010113  # addi x2, x2, 16
-    .word 0x00012023  # sw x0, 0(x2)
-    .word 0x00012223  # sw x0, 4(x2)
-    .word 0x00012423  # sw x0, 8(x2)
-    .word 0x00012623  # sw x0, 12(x2)
-    .word 0x00012823  # sw x0, 16(x2)
-    .word 0x00012a23  # sw x0, 20(x2)
-    .word 0x00012c23  # sw x0, 24(x2)
-    .word 0x00012e23  # sw x0, 28(x2)
-    .word 0x02010113  # addi x2, x2, 32
-    .word 0xfc511ee3  # bne x2, x5, -36
+    .word 0xfe5116e3  # bne x2, x5, -20
     .cfi_def_cfa 2, 0
     # temporaries, wiped
     .word 0x00000293  # addi x5, x0, 0
@@ -1991,6 +1896,35 @@ hmac_sha256:
     .word 0x00000f93  # addi x31, x0, 0
     # back
     .word 0x00008067  # jalr x0, 0(x1)
+    # from x5 to x6 up to x7, and back
+    .cfi_def_cfa 2, 944
+    .cfi_offset 8, -80
+    .cfi_offset 9, -76
+    .cfi_offset 18, -72
+    .cfi_offset 19, -68
+    .cfi_offset 20, -64
+    .cfi_offset 21, -60
+    .cfi_offset 22, -56
+    .cfi_offset 23, -52
+    .cfi_offset 24, -48
+    .cfi_offset 25, -44
+    .cfi_offset 26, -40
+    .cfi_offset 27, -36
+    .word 0x0062ee33  # or x28, x5, x6
+    .word 0x003e7e13  # andi x28, x28, 3
+    .word 0x000e0e63  # beq x28, x0, 28
+    .word 0x0002ce03  # lbu x28, 0(x5)
+    .word 0x01c30023  # sb x28, 0(x6)
+    .word 0x00128293  # addi x5, x5, 1
+    .word 0x00130313  # addi x6, x6, 1
+    .word 0xfe7298e3  # bne x5, x7, -16
+    .word 0x0180006f  # jal x0, 24
+    .word 0x0002ae03  # lw x28, 0(x5)
+    .word 0x01c32023  # sw x28, 0(x6)
+    .word 0x00428293  # addi x5, x5, 4
+    .word 0x00430313  # addi x6, x6, 4
+    .word 0xfe7298e3  # bne x5, x7, -16
+    .word 0x000f0067  # jalr x0, 0(x30)
     .cfi_endproc
     .size hmac_sha256, . - hmac_sha256
     .option pop

@@ -1,4 +1,4 @@
-# hotp_digits: made by factc 1.0.0 function; 132 words, 48 bytes of stack, profile 1
+# hotp_digits: made by factc 1.0.0 function; 116 words, 32 bytes of stack, profile 1
     .option push
     .option norvc
     .option norelax
@@ -10,121 +10,97 @@
 hotp_digits:
     .cfi_startproc
     # room above the frame
-    .word 0xff010113  # addi x2, x2, -16
-    .cfi_def_cfa_offset 16
+    .cfi_def_cfa_offset 0
     # the caller's registers
-    .word 0x00912023  # sw x9, 0(x2)
-    .cfi_offset 9, -16
     # arguments that are needed behind the body
     # the frame's base
     .word 0xfe010113  # addi x2, x2, -32
-    .cfi_def_cfa 2, 48
+    .cfi_def_cfa 2, 32
     # parameter 0: an array
     .word 0x00050293  # addi x5, x10, 0
     .word 0x00010313  # addi x6, x2, 0
-    .word 0x0032fe13  # andi x28, x5, 3
-    .word 0x020e0263  # beq x28, x0, 36
-    .word 0x01400393  # addi x7, x0, 20
-    .word 0x005383b3  # add x7, x7, x5
-    .word 0x0002ce03  # lbu x28, 0(x5)
-    .word 0x01c30023  # sb x28, 0(x6)
-    .word 0x00128293  # addi x5, x5, 1
-    .word 0x00130313  # addi x6, x6, 1
-    .word 0xfe7298e3  # bne x5, x7, -16
-    .word 0x02c0006f  # jal x0, 44
-    .word 0x0002ae03  # lw x28, 0(x5)
-    .word 0x01c32023  # sw x28, 0(x6)
-    .word 0x0042ae03  # lw x28, 4(x5)
-    .word 0x01c32223  # sw x28, 4(x6)
-    .word 0x0082ae03  # lw x28, 8(x5)
-    .word 0x01c32423  # sw x28, 8(x6)
-    .word 0x00c2ae03  # lw x28, 12(x5)
-    .word 0x01c32623  # sw x28, 12(x6)
-    .word 0x0102ae03  # lw x28, 16(x5)
-    .word 0x01c32823  # sw x28, 16(x6)
+    .word 0x01428393  # addi x7, x5, 20
+    .word 0x18400f6f  # jal x30, 388
     # the body
-    .word 0x00000613  # addi x12, x0, 0
     .word 0x00000693  # addi x13, x0, 0
     .word 0x00000713  # addi x14, x0, 0
     .word 0x01314283  # lbu x5, 19(x2)
-    .word 0x00f2f493  # andi x9, x5, 15
+    .word 0x00f2f513  # andi x10, x5, 15
     .word 0x00014283  # lbu x5, 0(x2)
     .word 0x01029293  # slli x5, x5, 16
     .word 0x00114303  # lbu x6, 1(x2)
     .word 0x00831313  # slli x6, x6, 8
     .word 0x0062e2b3  # or x5, x5, x6
     .word 0x00214303  # lbu x6, 2(x2)
-    .word 0x0062e533  # or x10, x5, x6
-    .word 0x00000593  # addi x11, x0, 0
+    .word 0x0062e5b3  # or x11, x5, x6
     .word 0x00000613  # addi x12, x0, 0
-    .word 0x00261713  # slli x14, x12, 2
-    .word 0x00851293  # slli x5, x10, 8
-    .word 0x00270333  # add x6, x14, x2
-    .word 0x00334303  # lbu x6, 3(x6)
-    .word 0x0062e533  # or x10, x5, x6
-    .word 0x0014b393  # sltiu x7, x9, 1
-    .word 0x407003b3  # sub x7, x0, x7
-    .word 0x00757333  # and x6, x10, x7
-    .word 0x0065e5b3  # or x11, x11, x6
-    .word 0xfff48493  # addi x9, x9, -1
-    .word 0x00851293  # slli x5, x10, 8
-    .word 0x00170313  # addi x6, x14, 1
-    .word 0x00230333  # add x6, x6, x2
-    .word 0x00334303  # lbu x6, 3(x6)
-    .word 0x0062e533  # or x10, x5, x6
-    .word 0x0014b393  # sltiu x7, x9, 1
-    .word 0x407003b3  # sub x7, x0, x7
-    .word 0x00757333  # and x6, x10, x7
-    .word 0x0065e5b3  # or x11, x11, x6
-    .word 0xfff48493  # addi x9, x9, -1
-    .word 0x00851293  # slli x5, x10, 8
-    .word 0x00270313  # addi x6, x14, 2
-    .word 0x00230333  # add x6, x6, x2
-    .word 0x00334303  # lbu x6, 3(x6)
-    .word 0x0062e533  # or x10, x5, x6
-    .word 0x0014b393  # sltiu x7, x9, 1
-    .word 0x407003b3  # sub x7, x0, x7
-    .word 0x00757333  # and x6, x10, x7
-    .word 0x0065e5b3  # or x11, x11, x6
-    .word 0xfff48493  # addi x9, x9, -1
-    .word 0x00851293  # slli x5, x10, 8
-    .word 0x00370313  # addi x6, x14, 3
-    .word 0x00230333  # add x6, x6, x2
-    .word 0x00334303  # lbu x6, 3(x6)
-    .word 0x0062e533  # or x10, x5, x6
-    .word 0x0014b393  # sltiu x7, x9, 1
-    .word 0x407003b3  # sub x7, x0, x7
-    .word 0x00757333  # and x6, x10, x7
-    .word 0x0065e5b3  # or x11, x11, x6
-    .word 0xfff48493  # addi x9, x9, -1
-    .word 0x00160613  # addi x12, x12, 1
-    .word 0x00463293  # sltiu x5, x12, 4
-    .word 0xf4029ce3  # bne x5, x0, -168
-    .word 0xfff60613  # addi x12, x12, -1
-    .word 0x00159593  # slli x11, x11, 1
-    .word 0x0015d593  # srli x11, x11, 1
-    .word 0x7a120737  # lui x14, 0x7a120
-    .word 0x00070713  # addi x14, x14, 0
     .word 0x00000693  # addi x13, x0, 0
-    .word 0x00e5b3b3  # sltu x7, x11, x14
-    .word 0xfff38393  # addi x7, x7, -1
-    .word 0x00777333  # and x6, x14, x7
-    .word 0x406585b3  # sub x11, x11, x6
-    .word 0x00175713  # srli x14, x14, 1
+    .word 0x00269793  # slli x15, x13, 2
+    .word 0x00859293  # slli x5, x11, 8
+    .word 0x00278333  # add x6, x15, x2
+    .word 0x00334303  # lbu x6, 3(x6)
+    .word 0x0062e5b3  # or x11, x5, x6
+    .word 0x00153393  # sltiu x7, x10, 1
+    .word 0x407003b3  # sub x7, x0, x7
+    .word 0x0075f333  # and x6, x11, x7
+    .word 0x00666633  # or x12, x12, x6
+    .word 0xfff50513  # addi x10, x10, -1
+    .word 0x00859293  # slli x5, x11, 8
+    .word 0x00178313  # addi x6, x15, 1
+    .word 0x00230333  # add x6, x6, x2
+    .word 0x00334303  # lbu x6, 3(x6)
+    .word 0x0062e5b3  # or x11, x5, x6
+    .word 0x00153393  # sltiu x7, x10, 1
+    .word 0x407003b3  # sub x7, x0, x7
+    .word 0x0075f333  # and x6, x11, x7
+    .word 0x00666633  # or x12, x12, x6
+    .word 0xfff50513  # addi x10, x10, -1
+    .word 0x00859293  # slli x5, x11, 8
+    .word 0x00278313  # addi x6, x15, 2
+    .word 0x00230333  # add x6, x6, x2
+    .word 0x00334303  # lbu x6, 3(x6)
+    .word 0x0062e5b3  # or x11, x5, x6
+    .word 0x00153393  # sltiu x7, x10, 1
+    .word 0x407003b3  # sub x7, x0, x7
+    .word 0x0075f333  # and x6, x11, x7
+    .word 0x00666633  # or x12, x12, x6
+    .word 0xfff50513  # addi x10, x10, -1
+    .word 0x00859293  # slli x5, x11, 8
+    .word 0x00378313  # addi x6, x15, 3
+    .word 0x00230333  # add x6, x6, x2
+    .word 0x00334303  # lbu x6, 3(x6)
+    .word 0x0062e5b3  # or x11, x5, x6
+    .word 0x00153393  # sltiu x7, x10, 1
+    .word 0x407003b3  # sub x7, x0, x7
+    .word 0x0075f333  # and x6, x11, x7
+    .word 0x00666633  # or x12, x12, x6
+    .word 0xfff50513  # addi x10, x10, -1
     .word 0x00168693  # addi x13, x13, 1
-    .word 0x00c6b293  # sltiu x5, x13, 12
-    .word 0xfe0292e3  # bne x5, x0, -28
+    .word 0x0046b293  # sltiu x5, x13, 4
+    .word 0xf4029ce3  # bne x5, x0, -168
     .word 0xfff68693  # addi x13, x13, -1
-    .word 0x00b12a23  # sw x11, 20(x2)
+    .word 0x00161613  # slli x12, x12, 1
+    .word 0x00165613  # srli x12, x12, 1
+    .word 0x7a1207b7  # lui x15, 0x7a120
+    .word 0x00078793  # addi x15, x15, 0
+    .word 0x00000713  # addi x14, x0, 0
+    .word 0x00f633b3  # sltu x7, x12, x15
+    .word 0xfff38393  # addi x7, x7, -1
+    .word 0x0077f333  # and x6, x15, x7
+    .word 0x40660633  # sub x12, x12, x6
+    .word 0x0017d793  # srli x15, x15, 1
+    .word 0x00170713  # addi x14, x14, 1
+    .word 0x00c73293  # sltiu x5, x14, 12
+    .word 0xfe0292e3  # bne x5, x0, -28
+    .word 0xfff70713  # addi x14, x14, -1
+    .word 0x00c12a23  # sw x12, 20(x2)
     # the result
     .word 0x01412503  # lw x10, 20(x2)
     # above the frame
     .word 0x02010293  # addi x5, x2, 32
     # the caller's registers
-    .word 0x0002a483  # lw x9, 0(x5)
-    .cfi_restore 9
     # the caller's x2
-    .word 0x01028293  # addi x5, x5, 16
+    .word 0x00028293  # addi x5, x5, 0
     .cfi_def_cfa 5, 0
     # all the room, wiped upward
     .word 0x00012023  # sw x0, 0(x2)
@@ -132,16 +108,7 @@ hotp_digits:
     .word 0x00012423  # sw x0, 8(x2)
     .word 0x00012623  # sw x0, 12(x2)
     .word 0x01010113  # addi x2, x2, 16
-    .word 0x00012023  # sw x0, 0(x2)
-    .word 0x00012223  # sw x0, 4(x2)
-    .word 0x00012423  # sw x0, 8(x2)
-    .word 0x00012623  # sw x0, 12(x2)
-    .word 0x00012823  # sw x0, 16(x2)
-    .word 0x00012a23  # sw x0, 20(x2)
-    .word 0x00012c23  # sw x0, 24(x2)
-    .word 0x00012e23  # sw x0, 28(x2)
-    .word 0x02010113  # addi x2, x2, 32
-    .word 0xfc511ee3  # bne x2, x5, -36
+    .word 0xfe5116e3  # bne x2, x5, -20
     .cfi_def_cfa 2, 0
     # temporaries, wiped
     .word 0x00000293  # addi x5, x0, 0
@@ -160,6 +127,23 @@ hotp_digits:
     .word 0x00000f93  # addi x31, x0, 0
     # back
     .word 0x00008067  # jalr x0, 0(x1)
+    # from x5 to x6 up to x7, and back
+    .cfi_def_cfa 2, 32
+    .word 0x0062ee33  # or x28, x5, x6
+    .word 0x003e7e13  # andi x28, x28, 3
+    .word 0x000e0e63  # beq x28, x0, 28
+    .word 0x0002ce03  # lbu x28, 0(x5)
+    .word 0x01c30023  # sb x28, 0(x6)
+    .word 0x00128293  # addi x5, x5, 1
+    .word 0x00130313  # addi x6, x6, 1
+    .word 0xfe7298e3  # bne x5, x7, -16
+    .word 0x0180006f  # jal x0, 24
+    .word 0x0002ae03  # lw x28, 0(x5)
+    .word 0x01c32023  # sw x28, 0(x6)
+    .word 0x00428293  # addi x5, x5, 4
+    .word 0x00430313  # addi x6, x6, 4
+    .word 0xfe7298e3  # bne x5, x7, -16
+    .word 0x000f0067  # jalr x0, 0(x30)
     .cfi_endproc
     .size hotp_digits, . - hotp_digits
     .option pop

@@ -1,4 +1,4 @@
-# lookup_words_256: made by factc 1.0.0 function; 66 words, 1056 bytes of stack, profile 1
+# lookup_words_256: made by factc 1.0.0 function; 69 words, 1040 bytes of stack, profile 1
     .option push
     .option norvc
     .option norelax
@@ -10,73 +10,53 @@
 lookup_words_256:
     .cfi_startproc
     # room above the frame
-    .word 0xff010113  # addi x2, x2, -16
-    .cfi_def_cfa_offset 16
+    .cfi_def_cfa_offset 0
     # the caller's registers
-    .word 0x00912023  # sw x9, 0(x2)
-    .cfi_offset 9, -16
     # arguments that are needed behind the body
     # the frame's base
     .word 0xbf010113  # addi x2, x2, -1040
-    .cfi_def_cfa 2, 1056
+    .cfi_def_cfa 2, 1040
     # parameter 0: a word
     .word 0x0ff57513  # andi x10, x10, 255
     .word 0x00a12023  # sw x10, 0(x2)
     # parameter 1: an array
     .word 0x00058293  # addi x5, x11, 0
     .word 0x00410313  # addi x6, x2, 4
-    .word 0x40000393  # addi x7, x0, 1024
-    .word 0x005383b3  # add x7, x7, x5
-    .word 0x0002ae03  # lw x28, 0(x5)
-    .word 0x01c32023  # sw x28, 0(x6)
-    .word 0x0042ae03  # lw x28, 4(x5)
-    .word 0x01c32223  # sw x28, 4(x6)
-    .word 0x0082ae03  # lw x28, 8(x5)
-    .word 0x01c32423  # sw x28, 8(x6)
-    .word 0x00c2ae03  # lw x28, 12(x5)
-    .word 0x01c32623  # sw x28, 12(x6)
-    .word 0x01028293  # addi x5, x5, 16
-    .word 0x01030313  # addi x6, x6, 16
-    .word 0xfc729ce3  # bne x5, x7, -40
+    .word 0x40028393  # addi x7, x5, 1024
+    .word 0x0a800f6f  # jal x30, 168
     # the body
-    .word 0x00012483  # lw x9, 0(x2)
+    .word 0x00012503  # lw x10, 0(x2)
+    .word 0x00000613  # addi x12, x0, 0
     .word 0x00000593  # addi x11, x0, 0
-    .word 0x00000513  # addi x10, x0, 0
-    .word 0x00000593  # addi x11, x0, 0
-    .word 0x00259313  # slli x6, x11, 2
+    .word 0x00000613  # addi x12, x0, 0
+    .word 0x00261313  # slli x6, x12, 2
     .word 0x00230333  # add x6, x6, x2
     .word 0x00432303  # lw x6, 4(x6)
-    .word 0x409583b3  # sub x7, x11, x9
+    .word 0x40a603b3  # sub x7, x12, x10
     .word 0x0013b393  # sltiu x7, x7, 1
     .word 0x407003b3  # sub x7, x0, x7
     .word 0x00737333  # and x6, x6, x7
-    .word 0x00656533  # or x10, x10, x6
-    .word 0x00158593  # addi x11, x11, 1
-    .word 0x1005b293  # sltiu x5, x11, 256
+    .word 0x0065e5b3  # or x11, x11, x6
+    .word 0x00160613  # addi x12, x12, 1
+    .word 0x10063293  # sltiu x5, x12, 256
     .word 0xfc029ce3  # bne x5, x0, -40
-    .word 0xfff58593  # addi x11, x11, -1
-    .word 0x40a12223  # sw x10, 1028(x2)
+    .word 0xfff60613  # addi x12, x12, -1
+    .word 0x40b12223  # sw x11, 1028(x2)
     # the result
     .word 0x40412503  # lw x10, 1028(x2)
     # above the frame
     .word 0x41010293  # addi x5, x2, 1040
     # the caller's registers
-    .word 0x0002a483  # lw x9, 0(x5)
-    .cfi_restore 9
     # the caller's x2
-    .word 0x01028293  # addi x5, x5, 16
+    .word 0x00028293  # addi x5, x5, 0
     .cfi_def_cfa 5, 0
     # all the room, wiped upward
     .word 0x00012023  # sw x0, 0(x2)
     .word 0x00012223  # sw x0, 4(x2)
     .word 0x00012423  # sw x0, 8(x2)
     .word 0x00012623  # sw x0, 12(x2)
-    .word 0x00012823  # sw x0, 16(x2)
-    .word 0x00012a23  # sw x0, 20(x2)
-    .word 0x00012c23  # sw x0, 24(x2)
-    .word 0x00012e23  # sw x0, 28(x2)
-    .word 0x02010113  # addi x2, x2, 32
-    .word 0xfc511ee3  # bne x2, x5, -36
+    .word 0x01010113  # addi x2, x2, 16
+    .word 0xfe5116e3  # bne x2, x5, -20
     .cfi_def_cfa 2, 0
     # temporaries, wiped
     .word 0x00000293  # addi x5, x0, 0
@@ -95,6 +75,29 @@ lookup_words_256:
     .word 0x00000f93  # addi x31, x0, 0
     # back
     .word 0x00008067  # jalr x0, 0(x1)
+    # from x5 to x6 up to x7, and back
+    .cfi_def_cfa 2, 1040
+    .word 0x0062ee33  # or x28, x5, x6
+    .word 0x003e7e13  # andi x28, x28, 3
+    .word 0x000e0e63  # beq x28, x0, 28
+    .word 0x0002ce03  # lbu x28, 0(x5)
+    .word 0x01c30023  # sb x28, 0(x6)
+    .word 0x00128293  # addi x5, x5, 1
+    .word 0x00130313  # addi x6, x6, 1
+    .word 0xfe7298e3  # bne x5, x7, -16
+    .word 0x0300006f  # jal x0, 48
+    .word 0x0002ae03  # lw x28, 0(x5)
+    .word 0x01c32023  # sw x28, 0(x6)
+    .word 0x0042ae03  # lw x28, 4(x5)
+    .word 0x01c32223  # sw x28, 4(x6)
+    .word 0x0082ae03  # lw x28, 8(x5)
+    .word 0x01c32423  # sw x28, 8(x6)
+    .word 0x00c2ae03  # lw x28, 12(x5)
+    .word 0x01c32623  # sw x28, 12(x6)
+    .word 0x01028293  # addi x5, x5, 16
+    .word 0x01030313  # addi x6, x6, 16
+    .word 0xfc729ce3  # bne x5, x7, -40
+    .word 0x000f0067  # jalr x0, 0(x30)
     .cfi_endproc
     .size lookup_words_256, . - lookup_words_256
     .option pop

@@ -1,4 +1,4 @@
-# minimum_maximum_16: made by factc 1.0.0 function; 123 words, 112 bytes of stack, profile 1
+# minimum_maximum_16: made by factc 1.0.0 function; 116 words, 112 bytes of stack, profile 1
     .option push
     .option norvc
     .option norelax
@@ -13,10 +13,6 @@ minimum_maximum_16:
     .word 0xff010113  # addi x2, x2, -16
     .cfi_def_cfa_offset 16
     # the caller's registers
-    .word 0x00812023  # sw x8, 0(x2)
-    .cfi_offset 8, -16
-    .word 0x00912223  # sw x9, 4(x2)
-    .cfi_offset 9, -12
     # arguments that are needed behind the body
     .word 0x00a12423  # sw x10, 8(x2)
     .word 0x00b12623  # sw x11, 12(x2)
@@ -26,97 +22,78 @@ minimum_maximum_16:
     # parameter 0: an array
     .word 0x00050293  # addi x5, x10, 0
     .word 0x00010313  # addi x6, x2, 0
-    .word 0x04000393  # addi x7, x0, 64
-    .word 0x005383b3  # add x7, x7, x5
+    .word 0x04028393  # addi x7, x5, 64
+    .word 0x16000f6f  # jal x30, 352
+    # the body
+    .word 0x00000613  # addi x12, x0, 0
+    .word 0x00012503  # lw x10, 0(x2)
+    .word 0x00050593  # addi x11, x10, 0
+    .word 0x00000613  # addi x12, x0, 0
+    .word 0x00261713  # slli x14, x12, 2
+    .word 0x00271793  # slli x15, x14, 2
+    .word 0x002787b3  # add x15, x15, x2
+    .word 0x0007a683  # lw x13, 0(x15)
+    .word 0x00a6b2b3  # sltu x5, x13, x10
+    .word 0x405002b3  # sub x5, x0, x5
+    .word 0x00a6c333  # xor x6, x13, x10
+    .word 0x00537333  # and x6, x6, x5
+    .word 0x00654533  # xor x10, x10, x6
+    .word 0x00d5b2b3  # sltu x5, x11, x13
+    .word 0x405002b3  # sub x5, x0, x5
+    .word 0x00b6c333  # xor x6, x13, x11
+    .word 0x00537333  # and x6, x6, x5
+    .word 0x0065c5b3  # xor x11, x11, x6
+    .word 0x0047a683  # lw x13, 4(x15)
+    .word 0x00a6b2b3  # sltu x5, x13, x10
+    .word 0x405002b3  # sub x5, x0, x5
+    .word 0x00a6c333  # xor x6, x13, x10
+    .word 0x00537333  # and x6, x6, x5
+    .word 0x00654533  # xor x10, x10, x6
+    .word 0x00d5b2b3  # sltu x5, x11, x13
+    .word 0x405002b3  # sub x5, x0, x5
+    .word 0x00b6c333  # xor x6, x13, x11
+    .word 0x00537333  # and x6, x6, x5
+    .word 0x0065c5b3  # xor x11, x11, x6
+    .word 0x0087a683  # lw x13, 8(x15)
+    .word 0x00a6b2b3  # sltu x5, x13, x10
+    .word 0x405002b3  # sub x5, x0, x5
+    .word 0x00a6c333  # xor x6, x13, x10
+    .word 0x00537333  # and x6, x6, x5
+    .word 0x00654533  # xor x10, x10, x6
+    .word 0x00d5b2b3  # sltu x5, x11, x13
+    .word 0x405002b3  # sub x5, x0, x5
+    .word 0x00b6c333  # xor x6, x13, x11
+    .word 0x00537333  # and x6, x6, x5
+    .word 0x0065c5b3  # xor x11, x11, x6
+    .word 0x00c7a683  # lw x13, 12(x15)
+    .word 0x00a6b2b3  # sltu x5, x13, x10
+    .word 0x405002b3  # sub x5, x0, x5
+    .word 0x00a6c333  # xor x6, x13, x10
+    .word 0x00537333  # and x6, x6, x5
+    .word 0x00654533  # xor x10, x10, x6
+    .word 0x00d5b2b3  # sltu x5, x11, x13
+    .word 0x405002b3  # sub x5, x0, x5
+    .word 0x00b6c333  # xor x6, x13, x11
+    .word 0x00537333  # and x6, x6, x5
+    .word 0x0065c5b3  # xor x11, x11, x6
+    .word 0x00160613  # addi x12, x12, 1
+    .word 0x00463293  # sltiu x5, x12, 4
+    .word 0xf2029ee3  # bne x5, x0, -196
+    .word 0xfff60613  # addi x12, x12, -1
+    .word 0x04a12023  # sw x10, 64(x2)
+    .word 0x04b12223  # sw x11, 68(x2)
+    # the result
+    .word 0x00000513  # addi x10, x0, 0
+    # parameter 1: the array, back
+    .word 0x04010293  # addi x5, x2, 64
+    .word 0x06c12303  # lw x6, 108(x2)
     .word 0x0002ae03  # lw x28, 0(x5)
     .word 0x01c32023  # sw x28, 0(x6)
     .word 0x0042ae03  # lw x28, 4(x5)
     .word 0x01c32223  # sw x28, 4(x6)
-    .word 0x0082ae03  # lw x28, 8(x5)
-    .word 0x01c32423  # sw x28, 8(x6)
-    .word 0x00c2ae03  # lw x28, 12(x5)
-    .word 0x01c32623  # sw x28, 12(x6)
-    .word 0x01028293  # addi x5, x5, 16
-    .word 0x01030313  # addi x6, x6, 16
-    .word 0xfc729ce3  # bne x5, x7, -40
-    # the body
-    .word 0x00000513  # addi x10, x0, 0
-    .word 0x00000593  # addi x11, x0, 0
-    .word 0x00000613  # addi x12, x0, 0
-    .word 0x00261693  # slli x13, x12, 2
-    .word 0x002686b3  # add x13, x13, x2
-    .word 0x00012403  # lw x8, 0(x2)
-    .word 0x00040493  # addi x9, x8, 0
-    .word 0x00000513  # addi x10, x0, 0
-    .word 0x00251613  # slli x12, x10, 2
-    .word 0x00261693  # slli x13, x12, 2
-    .word 0x002686b3  # add x13, x13, x2
-    .word 0x0006a583  # lw x11, 0(x13)
-    .word 0x0085b2b3  # sltu x5, x11, x8
-    .word 0x405002b3  # sub x5, x0, x5
-    .word 0x0085c333  # xor x6, x11, x8
-    .word 0x00537333  # and x6, x6, x5
-    .word 0x00644433  # xor x8, x8, x6
-    .word 0x00b4b2b3  # sltu x5, x9, x11
-    .word 0x405002b3  # sub x5, x0, x5
-    .word 0x0095c333  # xor x6, x11, x9
-    .word 0x00537333  # and x6, x6, x5
-    .word 0x0064c4b3  # xor x9, x9, x6
-    .word 0x0046a583  # lw x11, 4(x13)
-    .word 0x0085b2b3  # sltu x5, x11, x8
-    .word 0x405002b3  # sub x5, x0, x5
-    .word 0x0085c333  # xor x6, x11, x8
-    .word 0x00537333  # and x6, x6, x5
-    .word 0x00644433  # xor x8, x8, x6
-    .word 0x00b4b2b3  # sltu x5, x9, x11
-    .word 0x405002b3  # sub x5, x0, x5
-    .word 0x0095c333  # xor x6, x11, x9
-    .word 0x00537333  # and x6, x6, x5
-    .word 0x0064c4b3  # xor x9, x9, x6
-    .word 0x0086a583  # lw x11, 8(x13)
-    .word 0x0085b2b3  # sltu x5, x11, x8
-    .word 0x405002b3  # sub x5, x0, x5
-    .word 0x0085c333  # xor x6, x11, x8
-    .word 0x00537333  # and x6, x6, x5
-    .word 0x00644433  # xor x8, x8, x6
-    .word 0x00b4b2b3  # sltu x5, x9, x11
-    .word 0x405002b3  # sub x5, x0, x5
-    .word 0x0095c333  # xor x6, x11, x9
-    .word 0x00537333  # and x6, x6, x5
-    .word 0x0064c4b3  # xor x9, x9, x6
-    .word 0x00c6a583  # lw x11, 12(x13)
-    .word 0x0085b2b3  # sltu x5, x11, x8
-    .word 0x405002b3  # sub x5, x0, x5
-    .word 0x0085c333  # xor x6, x11, x8
-    .word 0x00537333  # and x6, x6, x5
-    .word 0x00644433  # xor x8, x8, x6
-    .word 0x00b4b2b3  # sltu x5, x9, x11
-    .word 0x405002b3  # sub x5, x0, x5
-    .word 0x0095c333  # xor x6, x11, x9
-    .word 0x00537333  # and x6, x6, x5
-    .word 0x0064c4b3  # xor x9, x9, x6
-    .word 0x00150513  # addi x10, x10, 1
-    .word 0x00453293  # sltiu x5, x10, 4
-    .word 0xf2029ee3  # bne x5, x0, -196
-    .word 0xfff50513  # addi x10, x10, -1
-    .word 0x04812023  # sw x8, 64(x2)
-    .word 0x04912223  # sw x9, 68(x2)
-    # the result
-    .word 0x00000513  # addi x10, x0, 0
-    # parameter 1: the array, back
-    .word 0x06c12283  # lw x5, 108(x2)
-    .word 0x04010313  # addi x6, x2, 64
-    .word 0x00032e03  # lw x28, 0(x6)
-    .word 0x01c2a023  # sw x28, 0(x5)
-    .word 0x00432e03  # lw x28, 4(x6)
-    .word 0x01c2a223  # sw x28, 4(x5)
     # above the frame
     .word 0x06010293  # addi x5, x2, 96
     # the caller's registers
-    .word 0x0002a403  # lw x8, 0(x5)
-    .cfi_restore 8
-    .word 0x0042a483  # lw x9, 4(x5)
-    .cfi_restore 9
     # the caller's x2
     .word 0x01028293  # addi x5, x5, 16
     .cfi_def_cfa 5, 0
@@ -126,16 +103,7 @@ minimum_maximum_16:
     .word 0x00012423  # sw x0, 8(x2)
     .word 0x00012623  # sw x0, 12(x2)
     .word 0x01010113  # addi x2, x2, 16
-    .word 0x00012023  # sw x0, 0(x2)
-    .word 0x00012223  # sw x0, 4(x2)
-    .word 0x00012423  # sw x0, 8(x2)
-    .word 0x00012623  # sw x0, 12(x2)
-    .word 0x00012823  # sw x0, 16(x2)
-    .word 0x00012a23  # sw x0, 20(x2)
-    .word 0x00012c23  # sw x0, 24(x2)
-    .word 0x00012e23  # sw x0, 28(x2)
-    .word 0x02010113  # addi x2, x2, 32
-    .word 0xfc511ee3  # bne x2, x5, -36
+    .word 0xfe5116e3  # bne x2, x5, -20
     .cfi_def_cfa 2, 0
     # temporaries, wiped
     .word 0x00000293  # addi x5, x0, 0
@@ -154,6 +122,29 @@ minimum_maximum_16:
     .word 0x00000f93  # addi x31, x0, 0
     # back
     .word 0x00008067  # jalr x0, 0(x1)
+    # from x5 to x6 up to x7, and back
+    .cfi_def_cfa 2, 112
+    .word 0x0062ee33  # or x28, x5, x6
+    .word 0x003e7e13  # andi x28, x28, 3
+    .word 0x000e0e63  # beq x28, x0, 28
+    .word 0x0002ce03  # lbu x28, 0(x5)
+    .word 0x01c30023  # sb x28, 0(x6)
+    .word 0x00128293  # addi x5, x5, 1
+    .word 0x00130313  # addi x6, x6, 1
+    .word 0xfe7298e3  # bne x5, x7, -16
+    .word 0x0300006f  # jal x0, 48
+    .word 0x0002ae03  # lw x28, 0(x5)
+    .word 0x01c32023  # sw x28, 0(x6)
+    .word 0x0042ae03  # lw x28, 4(x5)
+    .word 0x01c32223  # sw x28, 4(x6)
+    .word 0x0082ae03  # lw x28, 8(x5)
+    .word 0x01c32423  # sw x28, 8(x6)
+    .word 0x00c2ae03  # lw x28, 12(x5)
+    .word 0x01c32623  # sw x28, 12(x6)
+    .word 0x01028293  # addi x5, x5, 16
+    .word 0x01030313  # addi x6, x6, 16
+    .word 0xfc729ce3  # bne x5, x7, -40
+    .word 0x000f0067  # jalr x0, 0(x30)
     .cfi_endproc
     .size minimum_maximum_16, . - minimum_maximum_16
     .option pop

@@ -1,4 +1,4 @@
-# minimum_maximum_64: made by factc 1.0.0 function; 104 words, 80 bytes of stack, profile 1
+# minimum_maximum_64: made by factc 1.0.0 function; 93 words, 64 bytes of stack, profile 1
     .option push
     .option norvc
     .option norelax
@@ -10,20 +10,18 @@
 minimum_maximum_64:
     .cfi_startproc
     # room above the frame
-    .word 0xfe010113  # addi x2, x2, -32
-    .cfi_def_cfa_offset 32
+    .word 0xff010113  # addi x2, x2, -16
+    .cfi_def_cfa_offset 16
     # the caller's registers
     .word 0x00812023  # sw x8, 0(x2)
-    .cfi_offset 8, -32
-    .word 0x00912223  # sw x9, 4(x2)
-    .cfi_offset 9, -28
+    .cfi_offset 8, -16
     # arguments that are needed behind the body
-    .word 0x00a12a23  # sw x10, 20(x2)
-    .word 0x00b12c23  # sw x11, 24(x2)
-    .word 0x00c12e23  # sw x12, 28(x2)
+    .word 0x00a12223  # sw x10, 4(x2)
+    .word 0x00b12423  # sw x11, 8(x2)
+    .word 0x00c12623  # sw x12, 12(x2)
     # the frame's base
     .word 0xfd010113  # addi x2, x2, -48
-    .cfi_def_cfa 2, 80
+    .cfi_def_cfa 2, 64
     # parameter 0: an array
     .word 0x00050293  # addi x5, x10, 0
     .word 0x00010313  # addi x6, x2, 0
@@ -50,31 +48,31 @@ minimum_maximum_64:
     .word 0x00812403  # lw x8, 8(x2)
     .word 0x0083b3b3  # sltu x7, x7, x8
     .word 0x00737333  # and x6, x6, x7
-    .word 0x0062e4b3  # or x9, x5, x6
+    .word 0x0062e533  # or x10, x5, x6
     .word 0x00012303  # lw x6, 0(x2)
     .word 0x00812383  # lw x7, 8(x2)
-    .word 0x409002b3  # sub x5, x0, x9
+    .word 0x40a002b3  # sub x5, x0, x10
     .word 0x00734333  # xor x6, x6, x7
     .word 0x00537333  # and x6, x6, x5
     .word 0x0063c2b3  # xor x5, x7, x6
     .word 0x00512823  # sw x5, 16(x2)
     .word 0x00412303  # lw x6, 4(x2)
     .word 0x00c12383  # lw x7, 12(x2)
-    .word 0x409002b3  # sub x5, x0, x9
+    .word 0x40a002b3  # sub x5, x0, x10
     .word 0x00734333  # xor x6, x6, x7
     .word 0x00537333  # and x6, x6, x5
     .word 0x0063c2b3  # xor x5, x7, x6
     .word 0x00512a23  # sw x5, 20(x2)
     .word 0x00812303  # lw x6, 8(x2)
     .word 0x00012383  # lw x7, 0(x2)
-    .word 0x409002b3  # sub x5, x0, x9
+    .word 0x40a002b3  # sub x5, x0, x10
     .word 0x00734333  # xor x6, x6, x7
     .word 0x00537333  # and x6, x6, x5
     .word 0x0063c2b3  # xor x5, x7, x6
     .word 0x00512c23  # sw x5, 24(x2)
     .word 0x00c12303  # lw x6, 12(x2)
     .word 0x00412383  # lw x7, 4(x2)
-    .word 0x409002b3  # sub x5, x0, x9
+    .word 0x40a002b3  # sub x5, x0, x10
     .word 0x00734333  # xor x6, x6, x7
     .word 0x00537333  # and x6, x6, x5
     .word 0x0063c2b3  # xor x5, x7, x6
@@ -82,25 +80,23 @@ minimum_maximum_64:
     # the result
     .word 0x00000513  # addi x10, x0, 0
     # parameter 2: the array, back
-    .word 0x04c12283  # lw x5, 76(x2)
-    .word 0x01010313  # addi x6, x2, 16
-    .word 0x00032e03  # lw x28, 0(x6)
-    .word 0x01c2a023  # sw x28, 0(x5)
-    .word 0x00432e03  # lw x28, 4(x6)
-    .word 0x01c2a223  # sw x28, 4(x5)
-    .word 0x00832e03  # lw x28, 8(x6)
-    .word 0x01c2a423  # sw x28, 8(x5)
-    .word 0x00c32e03  # lw x28, 12(x6)
-    .word 0x01c2a623  # sw x28, 12(x5)
+    .word 0x01010293  # addi x5, x2, 16
+    .word 0x03c12303  # lw x6, 60(x2)
+    .word 0x0002ae03  # lw x28, 0(x5)
+    .word 0x01c32023  # sw x28, 0(x6)
+    .word 0x0042ae03  # lw x28, 4(x5)
+    .word 0x01c32223  # sw x28, 4(x6)
+    .word 0x0082ae03  # lw x28, 8(x5)
+    .word 0x01c32423  # sw x28, 8(x6)
+    .word 0x00c2ae03  # lw x28, 12(x5)
+    .word 0x01c32623  # sw x28, 12(x6)
     # above the frame
     .word 0x03010293  # addi x5, x2, 48
     # the caller's registers
     .word 0x0002a403  # lw x8, 0(x5)
     .cfi_restore 8
-    .word 0x0042a483  # lw x9, 4(x5)
-    .cfi_restore 9
     # the caller's x2
-    .word 0x02028293  # addi x5, x5, 32
+    .word 0x01028293  # addi x5, x5, 16
     .cfi_def_cfa 5, 0
     # all the room, wiped upward
     .word 0x00012023  # sw x0, 0(x2)
@@ -108,16 +104,7 @@ minimum_maximum_64:
     .word 0x00012423  # sw x0, 8(x2)
     .word 0x00012623  # sw x0, 12(x2)
     .word 0x01010113  # addi x2, x2, 16
-    .word 0x00012023  # sw x0, 0(x2)
-    .word 0x00012223  # sw x0, 4(x2)
-    .word 0x00012423  # sw x0, 8(x2)
-    .word 0x00012623  # sw x0, 12(x2)
-    .word 0x00012823  # sw x0, 16(x2)
-    .word 0x00012a23  # sw x0, 20(x2)
-    .word 0x00012c23  # sw x0, 24(x2)
-    .word 0x00012e23  # sw x0, 28(x2)
-    .word 0x02010113  # addi x2, x2, 32
-    .word 0xfc511ee3  # bne x2, x5, -36
+    .word 0xfe5116e3  # bne x2, x5, -20
     .cfi_def_cfa 2, 0
     # temporaries, wiped
     .word 0x00000293  # addi x5, x0, 0

@@ -1,4 +1,4 @@
-# mlkem_multiply_ntts: made by factc 1.0.0 function; 389 words, 1840 bytes of stack, profile 1
+# mlkem_multiply_ntts: made by factc 1.0.0 function; 308 words, 1840 bytes of stack, profile 1
     .option push
     .option norvc
     .option norelax
@@ -13,14 +13,14 @@ mlkem_multiply_ntts:
     .word 0xfe010113  # addi x2, x2, -32
     .cfi_def_cfa_offset 32
     # the caller's registers
-    .word 0x00812023  # sw x8, 0(x2)
-    .cfi_offset 8, -32
-    .word 0x00912223  # sw x9, 4(x2)
-    .cfi_offset 9, -28
-    .word 0x01212423  # sw x18, 8(x2)
-    .cfi_offset 18, -24
-    .word 0x01312623  # sw x19, 12(x2)
-    .cfi_offset 19, -20
+    .word 0x01212023  # sw x18, 0(x2)
+    .cfi_offset 18, -32
+    .word 0x01312223  # sw x19, 4(x2)
+    .cfi_offset 19, -28
+    .word 0x01412423  # sw x20, 8(x2)
+    .cfi_offset 20, -24
+    .word 0x01512623  # sw x21, 12(x2)
+    .cfi_offset 21, -20
     # arguments that are needed behind the body
     .word 0x00a12a23  # sw x10, 20(x2)
     .word 0x00b12c23  # sw x11, 24(x2)
@@ -31,98 +31,26 @@ mlkem_multiply_ntts:
     # parameter 0: an array
     .word 0x00050293  # addi x5, x10, 0
     .word 0x00010313  # addi x6, x2, 0
-    .word 0x0032fe13  # andi x28, x5, 3
-    .word 0x020e0263  # beq x28, x0, 36
-    .word 0x20000393  # addi x7, x0, 512
-    .word 0x005383b3  # add x7, x7, x5
-    .word 0x0002de03  # lhu x28, 0(x5)
-    .word 0x01c31023  # sh x28, 0(x6)
-    .word 0x00228293  # addi x5, x5, 2
-    .word 0x00230313  # addi x6, x6, 2
-    .word 0xfe7298e3  # bne x5, x7, -16
-    .word 0x0380006f  # jal x0, 56
-    .word 0x20000393  # addi x7, x0, 512
-    .word 0x005383b3  # add x7, x7, x5
-    .word 0x0002ae03  # lw x28, 0(x5)
-    .word 0x01c32023  # sw x28, 0(x6)
-    .word 0x0042ae03  # lw x28, 4(x5)
-    .word 0x01c32223  # sw x28, 4(x6)
-    .word 0x0082ae03  # lw x28, 8(x5)
-    .word 0x01c32423  # sw x28, 8(x6)
-    .word 0x00c2ae03  # lw x28, 12(x5)
-    .word 0x01c32623  # sw x28, 12(x6)
-    .word 0x01028293  # addi x5, x5, 16
-    .word 0x01030313  # addi x6, x6, 16
-    .word 0xfc729ce3  # bne x5, x7, -40
+    .word 0x20028393  # addi x7, x5, 512
+    .word 0x44c00f6f  # jal x30, 1100
     # parameter 1: an array
     .word 0x00058293  # addi x5, x11, 0
     .word 0x20010313  # addi x6, x2, 512
-    .word 0x0032fe13  # andi x28, x5, 3
-    .word 0x020e0263  # beq x28, x0, 36
-    .word 0x20000393  # addi x7, x0, 512
-    .word 0x005383b3  # add x7, x7, x5
-    .word 0x0002de03  # lhu x28, 0(x5)
-    .word 0x01c31023  # sh x28, 0(x6)
-    .word 0x00228293  # addi x5, x5, 2
-    .word 0x00230313  # addi x6, x6, 2
-    .word 0xfe7298e3  # bne x5, x7, -16
-    .word 0x0380006f  # jal x0, 56
-    .word 0x20000393  # addi x7, x0, 512
-    .word 0x005383b3  # add x7, x7, x5
-    .word 0x0002ae03  # lw x28, 0(x5)
-    .word 0x01c32023  # sw x28, 0(x6)
-    .word 0x0042ae03  # lw x28, 4(x5)
-    .word 0x01c32223  # sw x28, 4(x6)
-    .word 0x0082ae03  # lw x28, 8(x5)
-    .word 0x01c32423  # sw x28, 8(x6)
-    .word 0x00c2ae03  # lw x28, 12(x5)
-    .word 0x01c32623  # sw x28, 12(x6)
-    .word 0x01028293  # addi x5, x5, 16
-    .word 0x01030313  # addi x6, x6, 16
-    .word 0xfc729ce3  # bne x5, x7, -40
+    .word 0x20028393  # addi x7, x5, 512
+    .word 0x43c00f6f  # jal x30, 1084
     # parameter 2: an array
     .word 0x00060293  # addi x5, x12, 0
     .word 0x40010313  # addi x6, x2, 1024
-    .word 0x0032fe13  # andi x28, x5, 3
-    .word 0x020e0263  # beq x28, x0, 36
-    .word 0x20000393  # addi x7, x0, 512
-    .word 0x005383b3  # add x7, x7, x5
-    .word 0x0002de03  # lhu x28, 0(x5)
-    .word 0x01c31023  # sh x28, 0(x6)
-    .word 0x00228293  # addi x5, x5, 2
-    .word 0x00230313  # addi x6, x6, 2
-    .word 0xfe7298e3  # bne x5, x7, -16
-    .word 0x0380006f  # jal x0, 56
-    .word 0x20000393  # addi x7, x0, 512
-    .word 0x005383b3  # add x7, x7, x5
-    .word 0x0002ae03  # lw x28, 0(x5)
-    .word 0x01c32023  # sw x28, 0(x6)
-    .word 0x0042ae03  # lw x28, 4(x5)
-    .word 0x01c32223  # sw x28, 4(x6)
-    .word 0x0082ae03  # lw x28, 8(x5)
-    .word 0x01c32423  # sw x28, 8(x6)
-    .word 0x00c2ae03  # lw x28, 12(x5)
-    .word 0x01c32623  # sw x28, 12(x6)
-    .word 0x01028293  # addi x5, x5, 16
-    .word 0x01030313  # addi x6, x6, 16
-    .word 0xfc729ce3  # bne x5, x7, -40
+    .word 0x20028393  # addi x7, x5, 512
+    .word 0x42c00f6f  # jal x30, 1068
     # the body
-    .word 0x00000413  # addi x8, x0, 0
-    .word 0x00000493  # addi x9, x0, 0
     .word 0x00000513  # addi x10, x0, 0
-    .word 0x00000593  # addi x11, x0, 0
-    .word 0x00000613  # addi x12, x0, 0
-    .word 0x00000693  # addi x13, x0, 0
-    .word 0x00000713  # addi x14, x0, 0
-    .word 0x00000793  # addi x15, x0, 0
-    .word 0x00241913  # slli x18, x8, 2
-    .word 0x00290933  # add x18, x18, x2
-    .word 0x00149993  # slli x19, x9, 1
-    .word 0x002989b3  # add x19, x19, x2
-    .word 0x9d7dc837  # lui x16, 0x9d7dc
-    .word 0xb4180813  # addi x16, x16, -1215
-    .word 0x000018b7  # lui x17, 0x00001
-    .word 0xd0188893  # addi x17, x17, -767
+    .word 0x00251a13  # slli x20, x10, 2
+    .word 0x002a0a33  # add x20, x20, x2
+    .word 0x9d7dc937  # lui x18, 0x9d7dc
+    .word 0xb4190913  # addi x18, x18, -1215
+    .word 0x000019b7  # lui x19, 0x00001
+    .word 0xd0198993  # addi x19, x19, -767
     .word 0x01100293  # addi x5, x0, 17
     .word 0x60512023  # sw x5, 1536(x2)
     .word 0x000012b7  # lui x5, 0x00001
@@ -279,116 +207,95 @@ mlkem_multiply_ntts:
     .word 0x000012b7  # lui x5, 0x00001
     .word 0x86a28293  # addi x5, x5, -1942
     .word 0x6e512e23  # sw x5, 1788(x2)
-    .word 0x00000413  # addi x8, x0, 0
-    .word 0x00241913  # slli x18, x8, 2
-    .word 0x00290933  # add x18, x18, x2
-    .word 0x00241493  # slli x9, x8, 2
-    .word 0x00149993  # slli x19, x9, 1
-    .word 0x002989b3  # add x19, x19, x2
-    .word 0x0009d503  # lhu x10, 0(x19)
-    .word 0x0029d583  # lhu x11, 2(x19)
-    .word 0x2009d603  # lhu x12, 512(x19)
-    .word 0x2029d683  # lhu x13, 514(x19)
-    .word 0x02d58733  # mul x14, x11, x13
-    .word 0x030737b3  # mulhu x15, x14, x16
-    .word 0x00b7d313  # srli x6, x15, 11
-    .word 0x03130333  # mul x6, x6, x17
-    .word 0x40670733  # sub x14, x14, x6
-    .word 0x02c502b3  # mul x5, x10, x12
-    .word 0x60092383  # lw x7, 1536(x18)
-    .word 0x02770333  # mul x6, x14, x7
-    .word 0x00628733  # add x14, x5, x6
-    .word 0x030737b3  # mulhu x15, x14, x16
-    .word 0x00b7d313  # srli x6, x15, 11
-    .word 0x03130333  # mul x6, x6, x17
-    .word 0x406707b3  # sub x15, x14, x6
-    .word 0x02d502b3  # mul x5, x10, x13
-    .word 0x02c58333  # mul x6, x11, x12
-    .word 0x00628733  # add x14, x5, x6
-    .word 0x03073533  # mulhu x10, x14, x16
-    .word 0x00b55313  # srli x6, x10, 11
-    .word 0x03130333  # mul x6, x6, x17
-    .word 0x40670733  # sub x14, x14, x6
-    .word 0x40f99023  # sh x15, 1024(x19)
-    .word 0x40e99123  # sh x14, 1026(x19)
-    .word 0x00241293  # slli x5, x8, 2
-    .word 0x00228493  # addi x9, x5, 2
-    .word 0x00149993  # slli x19, x9, 1
-    .word 0x002989b3  # add x19, x19, x2
-    .word 0x0009d503  # lhu x10, 0(x19)
-    .word 0x0029d583  # lhu x11, 2(x19)
-    .word 0x2009d603  # lhu x12, 512(x19)
-    .word 0x2029d683  # lhu x13, 514(x19)
-    .word 0x02d58733  # mul x14, x11, x13
-    .word 0x030737b3  # mulhu x15, x14, x16
-    .word 0x00b7d313  # srli x6, x15, 11
-    .word 0x03130333  # mul x6, x6, x17
-    .word 0x40670733  # sub x14, x14, x6
-    .word 0x40e88733  # sub x14, x17, x14
-    .word 0x02c502b3  # mul x5, x10, x12
-    .word 0x60092383  # lw x7, 1536(x18)
-    .word 0x02770333  # mul x6, x14, x7
-    .word 0x00628733  # add x14, x5, x6
-    .word 0x030737b3  # mulhu x15, x14, x16
-    .word 0x00b7d313  # srli x6, x15, 11
-    .word 0x03130333  # mul x6, x6, x17
-    .word 0x406707b3  # sub x15, x14, x6
-    .word 0x02d502b3  # mul x5, x10, x13
-    .word 0x02c58333  # mul x6, x11, x12
-    .word 0x00628733  # add x14, x5, x6
-    .word 0x03073533  # mulhu x10, x14, x16
-    .word 0x00b55313  # srli x6, x10, 11
-    .word 0x03130333  # mul x6, x6, x17
-    .word 0x40670733  # sub x14, x14, x6
-    .word 0x40f99023  # sh x15, 1024(x19)
-    .word 0x40e99123  # sh x14, 1026(x19)
-    .word 0x00140413  # addi x8, x8, 1
-    .word 0x00241913  # slli x18, x8, 2
-    .word 0x00290933  # add x18, x18, x2
-    .word 0x04043293  # sltiu x5, x8, 64
+    .word 0x00000513  # addi x10, x0, 0
+    .word 0x00251a13  # slli x20, x10, 2
+    .word 0x002a0a33  # add x20, x20, x2
+    .word 0x00251593  # slli x11, x10, 2
+    .word 0x00159a93  # slli x21, x11, 1
+    .word 0x002a8ab3  # add x21, x21, x2
+    .word 0x000ad603  # lhu x12, 0(x21)
+    .word 0x002ad683  # lhu x13, 2(x21)
+    .word 0x200ad703  # lhu x14, 512(x21)
+    .word 0x202ad783  # lhu x15, 514(x21)
+    .word 0x02f68833  # mul x16, x13, x15
+    .word 0x032838b3  # mulhu x17, x16, x18
+    .word 0x00b8d313  # srli x6, x17, 11
+    .word 0x03330333  # mul x6, x6, x19
+    .word 0x40680833  # sub x16, x16, x6
+    .word 0x02e602b3  # mul x5, x12, x14
+    .word 0x600a2383  # lw x7, 1536(x20)
+    .word 0x02780333  # mul x6, x16, x7
+    .word 0x00628833  # add x16, x5, x6
+    .word 0x032838b3  # mulhu x17, x16, x18
+    .word 0x00b8d313  # srli x6, x17, 11
+    .word 0x03330333  # mul x6, x6, x19
+    .word 0x406808b3  # sub x17, x16, x6
+    .word 0x02f602b3  # mul x5, x12, x15
+    .word 0x02e68333  # mul x6, x13, x14
+    .word 0x00628833  # add x16, x5, x6
+    .word 0x03283633  # mulhu x12, x16, x18
+    .word 0x00b65313  # srli x6, x12, 11
+    .word 0x03330333  # mul x6, x6, x19
+    .word 0x40680833  # sub x16, x16, x6
+    .word 0x411a9023  # sh x17, 1024(x21)
+    .word 0x410a9123  # sh x16, 1026(x21)
+    .word 0x00251293  # slli x5, x10, 2
+    .word 0x00228593  # addi x11, x5, 2
+    .word 0x00159a93  # slli x21, x11, 1
+    .word 0x002a8ab3  # add x21, x21, x2
+    .word 0x000ad603  # lhu x12, 0(x21)
+    .word 0x002ad683  # lhu x13, 2(x21)
+    .word 0x200ad703  # lhu x14, 512(x21)
+    .word 0x202ad783  # lhu x15, 514(x21)
+    .word 0x02f68833  # mul x16, x13, x15
+    .word 0x032838b3  # mulhu x17, x16, x18
+    .word 0x00b8d313  # srli x6, x17, 11
+    .word 0x03330333  # mul x6, x6, x19
+    .word 0x40680833  # sub x16, x16, x6
+    .word 0x41098833  # sub x16, x19, x16
+    .word 0x02e602b3  # mul x5, x12, x14
+    .word 0x600a2383  # lw x7, 1536(x20)
+    .word 0x02780333  # mul x6, x16, x7
+    .word 0x00628833  # add x16, x5, x6
+    .word 0x032838b3  # mulhu x17, x16, x18
+    .word 0x00b8d313  # srli x6, x17, 11
+    .word 0x03330333  # mul x6, x6, x19
+    .word 0x406808b3  # sub x17, x16, x6
+    .word 0x02f602b3  # mul x5, x12, x15
+    .word 0x02e68333  # mul x6, x13, x14
+    .word 0x00628833  # add x16, x5, x6
+    .word 0x03283633  # mulhu x12, x16, x18
+    .word 0x00b65313  # srli x6, x12, 11
+    .word 0x03330333  # mul x6, x6, x19
+    .word 0x40680833  # sub x16, x16, x6
+    .word 0x411a9023  # sh x17, 1024(x21)
+    .word 0x410a9123  # sh x16, 1026(x21)
+    .word 0x00150513  # addi x10, x10, 1
+    .word 0x00251a13  # slli x20, x10, 2
+    .word 0x002a0a33  # add x20, x20, x2
+    .word 0x04053293  # sltiu x5, x10, 64
     .word 0xf00290e3  # bne x5, x0, -256
-    .word 0xfff40413  # addi x8, x8, -1
-    .word 0x00241913  # slli x18, x8, 2
-    .word 0x00290933  # add x18, x18, x2
+    .word 0xfff50513  # addi x10, x10, -1
+    .word 0x00251a13  # slli x20, x10, 2
+    .word 0x002a0a33  # add x20, x20, x2
     # the result
     .word 0x00000513  # addi x10, x0, 0
     # parameter 2: the array, back
-    .word 0x72c12283  # lw x5, 1836(x2)
-    .word 0x40010313  # addi x6, x2, 1024
-    .word 0x0032fe13  # andi x28, x5, 3
-    .word 0x020e0263  # beq x28, x0, 36
-    .word 0x20000393  # addi x7, x0, 512
-    .word 0x005383b3  # add x7, x7, x5
-    .word 0x00035e03  # lhu x28, 0(x6)
-    .word 0x01c29023  # sh x28, 0(x5)
-    .word 0x00228293  # addi x5, x5, 2
-    .word 0x00230313  # addi x6, x6, 2
-    .word 0xfe7298e3  # bne x5, x7, -16
-    .word 0x0380006f  # jal x0, 56
-    .word 0x20000393  # addi x7, x0, 512
-    .word 0x005383b3  # add x7, x7, x5
-    .word 0x00032e03  # lw x28, 0(x6)
-    .word 0x01c2a023  # sw x28, 0(x5)
-    .word 0x00432e03  # lw x28, 4(x6)
-    .word 0x01c2a223  # sw x28, 4(x5)
-    .word 0x00832e03  # lw x28, 8(x6)
-    .word 0x01c2a423  # sw x28, 8(x5)
-    .word 0x00c32e03  # lw x28, 12(x6)
-    .word 0x01c2a623  # sw x28, 12(x5)
-    .word 0x01028293  # addi x5, x5, 16
-    .word 0x01030313  # addi x6, x6, 16
-    .word 0xfc729ce3  # bne x5, x7, -40
+    .word 0x40010293  # addi x5, x2, 1024
+    .word 0x72c12303  # lw x6, 1836(x2)
+    .word 0x20028393  # addi x7, x5, 512
+    .word 0x07000f6f  # jal x30, 112
     # above the frame
     .word 0x71010293  # addi x5, x2, 1808
     # the caller's registers
-    .word 0x0002a403  # lw x8, 0(x5)
-    .cfi_restore 8
-    .word 0x0042a483  # lw x9, 4(x5)
-    .cfi_restore 9
-    .word 0x0082a903  # lw x18, 8(x5)
+    .word 0x0002a903  # lw x18, 0(x5)
     .cfi_restore 18
-    .word 0x00c2a983  # lw x19, 12(x5)
+    .word 0x0042a983  # lw x19, 4(x5)
     .cfi_restore 19
+    .word 0x0082aa03  # lw x20, 8(x5)
+    .cfi_restore 20
+    .word 0x00c2aa83  # lw x21, 12(x5)
+    .cfi_restore 21
     # the caller's x2
     .word 0x02028293  # addi x5, x5, 32
     .cfi_def_cfa 5, 0
@@ -398,16 +305,7 @@ mlkem_multiply_ntts:
     .word 0x00012423  # sw x0, 8(x2)
     .word 0x00012623  # sw x0, 12(x2)
     .word 0x01010113  # addi x2, x2, 16
-    .word 0x00012023  # sw x0, 0(x2)
-    .word 0x00012223  # sw x0, 4(x2)
-    .word 0x00012423  # sw x0, 8(x2)
-    .word 0x00012623  # sw x0, 12(x2)
-    .word 0x00012823  # sw x0, 16(x2)
-    .word 0x00012a23  # sw x0, 20(x2)
-    .word 0x00012c23  # sw x0, 24(x2)
-    .word 0x00012e23  # sw x0, 28(x2)
-    .word 0x02010113  # addi x2, x2, 32
-    .word 0xfc511ee3  # bne x2, x5, -36
+    .word 0xfe5116e3  # bne x2, x5, -20
     .cfi_def_cfa 2, 0
     # temporaries, wiped
     .word 0x00000293  # addi x5, x0, 0
@@ -426,6 +324,33 @@ mlkem_multiply_ntts:
     .word 0x00000f93  # addi x31, x0, 0
     # back
     .word 0x00008067  # jalr x0, 0(x1)
+    # from x5 to x6 up to x7, and back
+    .cfi_def_cfa 2, 1840
+    .cfi_offset 18, -32
+    .cfi_offset 19, -28
+    .cfi_offset 20, -24
+    .cfi_offset 21, -20
+    .word 0x0062ee33  # or x28, x5, x6
+    .word 0x003e7e13  # andi x28, x28, 3
+    .word 0x000e0e63  # beq x28, x0, 28
+    .word 0x0002ce03  # lbu x28, 0(x5)
+    .word 0x01c30023  # sb x28, 0(x6)
+    .word 0x00128293  # addi x5, x5, 1
+    .word 0x00130313  # addi x6, x6, 1
+    .word 0xfe7298e3  # bne x5, x7, -16
+    .word 0x0300006f  # jal x0, 48
+    .word 0x0002ae03  # lw x28, 0(x5)
+    .word 0x01c32023  # sw x28, 0(x6)
+    .word 0x0042ae03  # lw x28, 4(x5)
+    .word 0x01c32223  # sw x28, 4(x6)
+    .word 0x0082ae03  # lw x28, 8(x5)
+    .word 0x01c32423  # sw x28, 8(x6)
+    .word 0x00c2ae03  # lw x28, 12(x5)
+    .word 0x01c32623  # sw x28, 12(x6)
+    .word 0x01028293  # addi x5, x5, 16
+    .word 0x01030313  # addi x6, x6, 16
+    .word 0xfc729ce3  # bne x5, x7, -40
+    .word 0x000f0067  # jalr x0, 0(x30)
     .cfi_endproc
     .size mlkem_multiply_ntts, . - mlkem_multiply_ntts
     .option pop

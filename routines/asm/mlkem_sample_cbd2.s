@@ -1,4 +1,4 @@
-# mlkem_sample_cbd2: made by factc 1.0.0 function; 220 words, 688 bytes of stack, profile 1
+# mlkem_sample_cbd2: made by factc 1.0.0 function; 161 words, 688 bytes of stack, profile 1
     .option push
     .option norvc
     .option norelax
@@ -13,14 +13,14 @@ mlkem_sample_cbd2:
     .word 0xfe010113  # addi x2, x2, -32
     .cfi_def_cfa_offset 32
     # the caller's registers
-    .word 0x00812023  # sw x8, 0(x2)
-    .cfi_offset 8, -32
-    .word 0x00912223  # sw x9, 4(x2)
-    .cfi_offset 9, -28
-    .word 0x01212423  # sw x18, 8(x2)
-    .cfi_offset 18, -24
-    .word 0x01312623  # sw x19, 12(x2)
-    .cfi_offset 19, -20
+    .word 0x01212023  # sw x18, 0(x2)
+    .cfi_offset 18, -32
+    .word 0x01312223  # sw x19, 4(x2)
+    .cfi_offset 19, -28
+    .word 0x01412423  # sw x20, 8(x2)
+    .cfi_offset 20, -24
+    .word 0x01512623  # sw x21, 12(x2)
+    .cfi_offset 21, -20
     # arguments that are needed behind the body
     .word 0x00a12c23  # sw x10, 24(x2)
     .word 0x00b12e23  # sw x11, 28(x2)
@@ -30,195 +30,124 @@ mlkem_sample_cbd2:
     # parameter 0: an array
     .word 0x00050293  # addi x5, x10, 0
     .word 0x00010313  # addi x6, x2, 0
-    .word 0x0032fe13  # andi x28, x5, 3
-    .word 0x020e0263  # beq x28, x0, 36
-    .word 0x08000393  # addi x7, x0, 128
-    .word 0x005383b3  # add x7, x7, x5
-    .word 0x0002ce03  # lbu x28, 0(x5)
-    .word 0x01c30023  # sb x28, 0(x6)
-    .word 0x00128293  # addi x5, x5, 1
-    .word 0x00130313  # addi x6, x6, 1
-    .word 0xfe7298e3  # bne x5, x7, -16
-    .word 0x0380006f  # jal x0, 56
-    .word 0x08000393  # addi x7, x0, 128
-    .word 0x005383b3  # add x7, x7, x5
-    .word 0x0002ae03  # lw x28, 0(x5)
-    .word 0x01c32023  # sw x28, 0(x6)
-    .word 0x0042ae03  # lw x28, 4(x5)
-    .word 0x01c32223  # sw x28, 4(x6)
-    .word 0x0082ae03  # lw x28, 8(x5)
-    .word 0x01c32423  # sw x28, 8(x6)
-    .word 0x00c2ae03  # lw x28, 12(x5)
-    .word 0x01c32623  # sw x28, 12(x6)
-    .word 0x01028293  # addi x5, x5, 16
-    .word 0x01030313  # addi x6, x6, 16
-    .word 0xfc729ce3  # bne x5, x7, -40
+    .word 0x08028393  # addi x7, x5, 128
+    .word 0x20400f6f  # jal x30, 516
     # parameter 1: an array
     .word 0x00058293  # addi x5, x11, 0
     .word 0x08010313  # addi x6, x2, 128
-    .word 0x0032fe13  # andi x28, x5, 3
-    .word 0x020e0263  # beq x28, x0, 36
-    .word 0x20000393  # addi x7, x0, 512
-    .word 0x005383b3  # add x7, x7, x5
-    .word 0x0002de03  # lhu x28, 0(x5)
-    .word 0x01c31023  # sh x28, 0(x6)
-    .word 0x00228293  # addi x5, x5, 2
-    .word 0x00230313  # addi x6, x6, 2
-    .word 0xfe7298e3  # bne x5, x7, -16
-    .word 0x0380006f  # jal x0, 56
-    .word 0x20000393  # addi x7, x0, 512
-    .word 0x005383b3  # add x7, x7, x5
-    .word 0x0002ae03  # lw x28, 0(x5)
-    .word 0x01c32023  # sw x28, 0(x6)
-    .word 0x0042ae03  # lw x28, 4(x5)
-    .word 0x01c32223  # sw x28, 4(x6)
-    .word 0x0082ae03  # lw x28, 8(x5)
-    .word 0x01c32423  # sw x28, 8(x6)
-    .word 0x00c2ae03  # lw x28, 12(x5)
-    .word 0x01c32623  # sw x28, 12(x6)
-    .word 0x01028293  # addi x5, x5, 16
-    .word 0x01030313  # addi x6, x6, 16
-    .word 0xfc729ce3  # bne x5, x7, -40
+    .word 0x20028393  # addi x7, x5, 512
+    .word 0x1f400f6f  # jal x30, 500
     # the body
-    .word 0x00000493  # addi x9, x0, 0
-    .word 0x00000513  # addi x10, x0, 0
     .word 0x00000593  # addi x11, x0, 0
-    .word 0x00000613  # addi x12, x0, 0
-    .word 0x00000693  # addi x13, x0, 0
-    .word 0x00000713  # addi x14, x0, 0
-    .word 0x00250933  # add x18, x10, x2
-    .word 0x00159993  # slli x19, x11, 1
-    .word 0x002989b3  # add x19, x19, x2
-    .word 0x555557b7  # lui x15, 0x55555
-    .word 0x55578793  # addi x15, x15, 1365
-    .word 0x33333837  # lui x16, 0x33333
-    .word 0x33380813  # addi x16, x16, 819
-    .word 0x888898b7  # lui x17, 0x88889
-    .word 0x88888893  # addi x17, x17, -1912
-    .word 0x00001437  # lui x8, 0x00001
-    .word 0xd0140413  # addi x8, x8, -767
-    .word 0x00000493  # addi x9, x0, 0
-    .word 0x00249513  # slli x10, x9, 2
-    .word 0x00250933  # add x18, x10, x2
-    .word 0x00349593  # slli x11, x9, 3
-    .word 0x00159993  # slli x19, x11, 1
-    .word 0x002989b3  # add x19, x19, x2
-    .word 0x00094283  # lbu x5, 0(x18)
-    .word 0x00194303  # lbu x6, 1(x18)
+    .word 0x555558b7  # lui x17, 0x55555
+    .word 0x55588893  # addi x17, x17, 1365
+    .word 0x33333937  # lui x18, 0x33333
+    .word 0x33390913  # addi x18, x18, 819
+    .word 0x888899b7  # lui x19, 0x88889
+    .word 0x88898993  # addi x19, x19, -1912
+    .word 0x00001537  # lui x10, 0x00001
+    .word 0xd0150513  # addi x10, x10, -767
+    .word 0x00000593  # addi x11, x0, 0
+    .word 0x00259613  # slli x12, x11, 2
+    .word 0x00260a33  # add x20, x12, x2
+    .word 0x00359693  # slli x13, x11, 3
+    .word 0x00169a93  # slli x21, x13, 1
+    .word 0x002a8ab3  # add x21, x21, x2
+    .word 0x000a4283  # lbu x5, 0(x20)
+    .word 0x001a4303  # lbu x6, 1(x20)
     .word 0x00831313  # slli x6, x6, 8
-    .word 0x0062e6b3  # or x13, x5, x6
-    .word 0x00294283  # lbu x5, 2(x18)
-    .word 0x00394303  # lbu x6, 3(x18)
+    .word 0x0062e7b3  # or x15, x5, x6
+    .word 0x002a4283  # lbu x5, 2(x20)
+    .word 0x003a4303  # lbu x6, 3(x20)
     .word 0x00831313  # slli x6, x6, 8
-    .word 0x0062e733  # or x14, x5, x6
-    .word 0x01071293  # slli x5, x14, 16
-    .word 0x00d2e6b3  # or x13, x5, x13
-    .word 0x00f6f2b3  # and x5, x13, x15
-    .word 0x0016d313  # srli x6, x13, 1
-    .word 0x00f37333  # and x6, x6, x15
-    .word 0x006286b3  # add x13, x5, x6
-    .word 0x0106f2b3  # and x5, x13, x16
-    .word 0x011282b3  # add x5, x5, x17
-    .word 0x0026d313  # srli x6, x13, 2
-    .word 0x01037333  # and x6, x6, x16
-    .word 0x40628633  # sub x12, x5, x6
-    .word 0x00f67293  # andi x5, x12, 15
-    .word 0xff828693  # addi x13, x5, -8
-    .word 0x0106d293  # srli x5, x13, 16
-    .word 0x0082f733  # and x14, x5, x8
-    .word 0x00e682b3  # add x5, x13, x14
-    .word 0x08599023  # sh x5, 128(x19)
-    .word 0x00465293  # srli x5, x12, 4
+    .word 0x0062e833  # or x16, x5, x6
+    .word 0x01081293  # slli x5, x16, 16
+    .word 0x00f2e7b3  # or x15, x5, x15
+    .word 0x0117f2b3  # and x5, x15, x17
+    .word 0x0017d313  # srli x6, x15, 1
+    .word 0x01137333  # and x6, x6, x17
+    .word 0x006287b3  # add x15, x5, x6
+    .word 0x0127f2b3  # and x5, x15, x18
+    .word 0x013282b3  # add x5, x5, x19
+    .word 0x0027d313  # srli x6, x15, 2
+    .word 0x01237333  # and x6, x6, x18
+    .word 0x40628733  # sub x14, x5, x6
+    .word 0x00f77293  # andi x5, x14, 15
+    .word 0xff828793  # addi x15, x5, -8
+    .word 0x0107d293  # srli x5, x15, 16
+    .word 0x00a2f833  # and x16, x5, x10
+    .word 0x010782b3  # add x5, x15, x16
+    .word 0x085a9023  # sh x5, 128(x21)
+    .word 0x00475293  # srli x5, x14, 4
     .word 0x00f2f293  # andi x5, x5, 15
-    .word 0xff828693  # addi x13, x5, -8
-    .word 0x0106d293  # srli x5, x13, 16
-    .word 0x0082f733  # and x14, x5, x8
-    .word 0x00e682b3  # add x5, x13, x14
-    .word 0x08599123  # sh x5, 130(x19)
-    .word 0x00865293  # srli x5, x12, 8
+    .word 0xff828793  # addi x15, x5, -8
+    .word 0x0107d293  # srli x5, x15, 16
+    .word 0x00a2f833  # and x16, x5, x10
+    .word 0x010782b3  # add x5, x15, x16
+    .word 0x085a9123  # sh x5, 130(x21)
+    .word 0x00875293  # srli x5, x14, 8
     .word 0x00f2f293  # andi x5, x5, 15
-    .word 0xff828693  # addi x13, x5, -8
-    .word 0x0106d293  # srli x5, x13, 16
-    .word 0x0082f733  # and x14, x5, x8
-    .word 0x00e682b3  # add x5, x13, x14
-    .word 0x08599223  # sh x5, 132(x19)
-    .word 0x00c65293  # srli x5, x12, 12
+    .word 0xff828793  # addi x15, x5, -8
+    .word 0x0107d293  # srli x5, x15, 16
+    .word 0x00a2f833  # and x16, x5, x10
+    .word 0x010782b3  # add x5, x15, x16
+    .word 0x085a9223  # sh x5, 132(x21)
+    .word 0x00c75293  # srli x5, x14, 12
     .word 0x00f2f293  # andi x5, x5, 15
-    .word 0xff828693  # addi x13, x5, -8
-    .word 0x0106d293  # srli x5, x13, 16
-    .word 0x0082f733  # and x14, x5, x8
-    .word 0x00e682b3  # add x5, x13, x14
-    .word 0x08599323  # sh x5, 134(x19)
-    .word 0x01065293  # srli x5, x12, 16
+    .word 0xff828793  # addi x15, x5, -8
+    .word 0x0107d293  # srli x5, x15, 16
+    .word 0x00a2f833  # and x16, x5, x10
+    .word 0x010782b3  # add x5, x15, x16
+    .word 0x085a9323  # sh x5, 134(x21)
+    .word 0x01075293  # srli x5, x14, 16
     .word 0x00f2f293  # andi x5, x5, 15
-    .word 0xff828693  # addi x13, x5, -8
-    .word 0x0106d293  # srli x5, x13, 16
-    .word 0x0082f733  # and x14, x5, x8
-    .word 0x00e682b3  # add x5, x13, x14
-    .word 0x08599423  # sh x5, 136(x19)
-    .word 0x01465293  # srli x5, x12, 20
+    .word 0xff828793  # addi x15, x5, -8
+    .word 0x0107d293  # srli x5, x15, 16
+    .word 0x00a2f833  # and x16, x5, x10
+    .word 0x010782b3  # add x5, x15, x16
+    .word 0x085a9423  # sh x5, 136(x21)
+    .word 0x01475293  # srli x5, x14, 20
     .word 0x00f2f293  # andi x5, x5, 15
-    .word 0xff828693  # addi x13, x5, -8
-    .word 0x0106d293  # srli x5, x13, 16
-    .word 0x0082f733  # and x14, x5, x8
-    .word 0x00e682b3  # add x5, x13, x14
-    .word 0x08599523  # sh x5, 138(x19)
-    .word 0x01865293  # srli x5, x12, 24
+    .word 0xff828793  # addi x15, x5, -8
+    .word 0x0107d293  # srli x5, x15, 16
+    .word 0x00a2f833  # and x16, x5, x10
+    .word 0x010782b3  # add x5, x15, x16
+    .word 0x085a9523  # sh x5, 138(x21)
+    .word 0x01875293  # srli x5, x14, 24
     .word 0x00f2f293  # andi x5, x5, 15
-    .word 0xff828693  # addi x13, x5, -8
-    .word 0x0106d293  # srli x5, x13, 16
-    .word 0x0082f733  # and x14, x5, x8
-    .word 0x00e682b3  # add x5, x13, x14
-    .word 0x08599623  # sh x5, 140(x19)
-    .word 0x01c65293  # srli x5, x12, 28
-    .word 0xff828693  # addi x13, x5, -8
-    .word 0x0106d293  # srli x5, x13, 16
-    .word 0x0082f733  # and x14, x5, x8
-    .word 0x00e682b3  # add x5, x13, x14
-    .word 0x08599723  # sh x5, 142(x19)
-    .word 0x00148493  # addi x9, x9, 1
-    .word 0x0204b293  # sltiu x5, x9, 32
+    .word 0xff828793  # addi x15, x5, -8
+    .word 0x0107d293  # srli x5, x15, 16
+    .word 0x00a2f833  # and x16, x5, x10
+    .word 0x010782b3  # add x5, x15, x16
+    .word 0x085a9623  # sh x5, 140(x21)
+    .word 0x01c75293  # srli x5, x14, 28
+    .word 0xff828793  # addi x15, x5, -8
+    .word 0x0107d293  # srli x5, x15, 16
+    .word 0x00a2f833  # and x16, x5, x10
+    .word 0x010782b3  # add x5, x15, x16
+    .word 0x085a9723  # sh x5, 142(x21)
+    .word 0x00158593  # addi x11, x11, 1
+    .word 0x0205b293  # sltiu x5, x11, 32
     .word 0xec0290e3  # bne x5, x0, -320
-    .word 0xfff48493  # addi x9, x9, -1
+    .word 0xfff58593  # addi x11, x11, -1
     # the result
     .word 0x00000513  # addi x10, x0, 0
     # parameter 1: the array, back
-    .word 0x2ac12283  # lw x5, 684(x2)
-    .word 0x08010313  # addi x6, x2, 128
-    .word 0x0032fe13  # andi x28, x5, 3
-    .word 0x020e0263  # beq x28, x0, 36
-    .word 0x20000393  # addi x7, x0, 512
-    .word 0x005383b3  # add x7, x7, x5
-    .word 0x00035e03  # lhu x28, 0(x6)
-    .word 0x01c29023  # sh x28, 0(x5)
-    .word 0x00228293  # addi x5, x5, 2
-    .word 0x00230313  # addi x6, x6, 2
-    .word 0xfe7298e3  # bne x5, x7, -16
-    .word 0x0380006f  # jal x0, 56
-    .word 0x20000393  # addi x7, x0, 512
-    .word 0x005383b3  # add x7, x7, x5
-    .word 0x00032e03  # lw x28, 0(x6)
-    .word 0x01c2a023  # sw x28, 0(x5)
-    .word 0x00432e03  # lw x28, 4(x6)
-    .word 0x01c2a223  # sw x28, 4(x5)
-    .word 0x00832e03  # lw x28, 8(x6)
-    .word 0x01c2a423  # sw x28, 8(x5)
-    .word 0x00c32e03  # lw x28, 12(x6)
-    .word 0x01c2a623  # sw x28, 12(x5)
-    .word 0x01028293  # addi x5, x5, 16
-    .word 0x01030313  # addi x6, x6, 16
-    .word 0xfc729ce3  # bne x5, x7, -40
+    .word 0x08010293  # addi x5, x2, 128
+    .word 0x2ac12303  # lw x6, 684(x2)
+    .word 0x20028393  # addi x7, x5, 512
+    .word 0x07000f6f  # jal x30, 112
     # above the frame
     .word 0x29010293  # addi x5, x2, 656
     # the caller's registers
-    .word 0x0002a403  # lw x8, 0(x5)
-    .cfi_restore 8
-    .word 0x0042a483  # lw x9, 4(x5)
-    .cfi_restore 9
-    .word 0x0082a903  # lw x18, 8(x5)
+    .word 0x0002a903  # lw x18, 0(x5)
     .cfi_restore 18
-    .word 0x00c2a983  # lw x19, 12(x5)
+    .word 0x0042a983  # lw x19, 4(x5)
     .cfi_restore 19
+    .word 0x0082aa03  # lw x20, 8(x5)
+    .cfi_restore 20
+    .word 0x00c2aa83  # lw x21, 12(x5)
+    .cfi_restore 21
     # the caller's x2
     .word 0x02028293  # addi x5, x5, 32
     .cfi_def_cfa 5, 0
@@ -228,16 +157,7 @@ mlkem_sample_cbd2:
     .word 0x00012423  # sw x0, 8(x2)
     .word 0x00012623  # sw x0, 12(x2)
     .word 0x01010113  # addi x2, x2, 16
-    .word 0x00012023  # sw x0, 0(x2)
-    .word 0x00012223  # sw x0, 4(x2)
-    .word 0x00012423  # sw x0, 8(x2)
-    .word 0x00012623  # sw x0, 12(x2)
-    .word 0x00012823  # sw x0, 16(x2)
-    .word 0x00012a23  # sw x0, 20(x2)
-    .word 0x00012c23  # sw x0, 24(x2)
-    .word 0x00012e23  # sw x0, 28(x2)
-    .word 0x02010113  # addi x2, x2, 32
-    .word 0xfc511ee3  # bne x2, x5, -36
+    .word 0xfe5116e3  # bne x2, x5, -20
     .cfi_def_cfa 2, 0
     # temporaries, wiped
     .word 0x00000293  # addi x5, x0, 0
@@ -256,6 +176,33 @@ mlkem_sample_cbd2:
     .word 0x00000f93  # addi x31, x0, 0
     # back
     .word 0x00008067  # jalr x0, 0(x1)
+    # from x5 to x6 up to x7, and back
+    .cfi_def_cfa 2, 688
+    .cfi_offset 18, -32
+    .cfi_offset 19, -28
+    .cfi_offset 20, -24
+    .cfi_offset 21, -20
+    .word 0x0062ee33  # or x28, x5, x6
+    .word 0x003e7e13  # andi x28, x28, 3
+    .word 0x000e0e63  # beq x28, x0, 28
+    .word 0x0002ce03  # lbu x28, 0(x5)
+    .word 0x01c30023  # sb x28, 0(x6)
+    .word 0x00128293  # addi x5, x5, 1
+    .word 0x00130313  # addi x6, x6, 1
+    .word 0xfe7298e3  # bne x5, x7, -16
+    .word 0x0300006f  # jal x0, 48
+    .word 0x0002ae03  # lw x28, 0(x5)
+    .word 0x01c32023  # sw x28, 0(x6)
+    .word 0x0042ae03  # lw x28, 4(x5)
+    .word 0x01c32223  # sw x28, 4(x6)
+    .word 0x0082ae03  # lw x28, 8(x5)
+    .word 0x01c32423  # sw x28, 8(x6)
+    .word 0x00c2ae03  # lw x28, 12(x5)
+    .word 0x01c32623  # sw x28, 12(x6)
+    .word 0x01028293  # addi x5, x5, 16
+    .word 0x01030313  # addi x6, x6, 16
+    .word 0xfc729ce3  # bne x5, x7, -40
+    .word 0x000f0067  # jalr x0, 0(x30)
     .cfi_endproc
     .size mlkem_sample_cbd2, . - mlkem_sample_cbd2
     .option pop

@@ -1,4 +1,4 @@
-# mlkem_sample_cbd3: made by factc 1.0.0 function; 194 words, 752 bytes of stack, profile 1
+# mlkem_sample_cbd3: made by factc 1.0.0 function; 135 words, 752 bytes of stack, profile 1
     .option push
     .option norvc
     .option norelax
@@ -13,14 +13,14 @@ mlkem_sample_cbd3:
     .word 0xfe010113  # addi x2, x2, -32
     .cfi_def_cfa_offset 32
     # the caller's registers
-    .word 0x00812023  # sw x8, 0(x2)
-    .cfi_offset 8, -32
-    .word 0x00912223  # sw x9, 4(x2)
-    .cfi_offset 9, -28
-    .word 0x01212423  # sw x18, 8(x2)
-    .cfi_offset 18, -24
-    .word 0x01312623  # sw x19, 12(x2)
-    .cfi_offset 19, -20
+    .word 0x01212023  # sw x18, 0(x2)
+    .cfi_offset 18, -32
+    .word 0x01312223  # sw x19, 4(x2)
+    .cfi_offset 19, -28
+    .word 0x01412423  # sw x20, 8(x2)
+    .cfi_offset 20, -24
+    .word 0x01512623  # sw x21, 12(x2)
+    .cfi_offset 21, -20
     # arguments that are needed behind the body
     .word 0x00a12c23  # sw x10, 24(x2)
     .word 0x00b12e23  # sw x11, 28(x2)
@@ -30,169 +30,98 @@ mlkem_sample_cbd3:
     # parameter 0: an array
     .word 0x00050293  # addi x5, x10, 0
     .word 0x00010313  # addi x6, x2, 0
-    .word 0x0032fe13  # andi x28, x5, 3
-    .word 0x020e0263  # beq x28, x0, 36
-    .word 0x0c000393  # addi x7, x0, 192
-    .word 0x005383b3  # add x7, x7, x5
-    .word 0x0002ce03  # lbu x28, 0(x5)
-    .word 0x01c30023  # sb x28, 0(x6)
-    .word 0x00128293  # addi x5, x5, 1
-    .word 0x00130313  # addi x6, x6, 1
-    .word 0xfe7298e3  # bne x5, x7, -16
-    .word 0x0380006f  # jal x0, 56
-    .word 0x0c000393  # addi x7, x0, 192
-    .word 0x005383b3  # add x7, x7, x5
-    .word 0x0002ae03  # lw x28, 0(x5)
-    .word 0x01c32023  # sw x28, 0(x6)
-    .word 0x0042ae03  # lw x28, 4(x5)
-    .word 0x01c32223  # sw x28, 4(x6)
-    .word 0x0082ae03  # lw x28, 8(x5)
-    .word 0x01c32423  # sw x28, 8(x6)
-    .word 0x00c2ae03  # lw x28, 12(x5)
-    .word 0x01c32623  # sw x28, 12(x6)
-    .word 0x01028293  # addi x5, x5, 16
-    .word 0x01030313  # addi x6, x6, 16
-    .word 0xfc729ce3  # bne x5, x7, -40
+    .word 0x0c028393  # addi x7, x5, 192
+    .word 0x19c00f6f  # jal x30, 412
     # parameter 1: an array
     .word 0x00058293  # addi x5, x11, 0
     .word 0x0c010313  # addi x6, x2, 192
-    .word 0x0032fe13  # andi x28, x5, 3
-    .word 0x020e0263  # beq x28, x0, 36
-    .word 0x20000393  # addi x7, x0, 512
-    .word 0x005383b3  # add x7, x7, x5
-    .word 0x0002de03  # lhu x28, 0(x5)
-    .word 0x01c31023  # sh x28, 0(x6)
-    .word 0x00228293  # addi x5, x5, 2
-    .word 0x00230313  # addi x6, x6, 2
-    .word 0xfe7298e3  # bne x5, x7, -16
-    .word 0x0380006f  # jal x0, 56
-    .word 0x20000393  # addi x7, x0, 512
-    .word 0x005383b3  # add x7, x7, x5
-    .word 0x0002ae03  # lw x28, 0(x5)
-    .word 0x01c32023  # sw x28, 0(x6)
-    .word 0x0042ae03  # lw x28, 4(x5)
-    .word 0x01c32223  # sw x28, 4(x6)
-    .word 0x0082ae03  # lw x28, 8(x5)
-    .word 0x01c32423  # sw x28, 8(x6)
-    .word 0x00c2ae03  # lw x28, 12(x5)
-    .word 0x01c32623  # sw x28, 12(x6)
-    .word 0x01028293  # addi x5, x5, 16
-    .word 0x01030313  # addi x6, x6, 16
-    .word 0xfc729ce3  # bne x5, x7, -40
+    .word 0x20028393  # addi x7, x5, 512
+    .word 0x18c00f6f  # jal x30, 396
     # the body
-    .word 0x00000513  # addi x10, x0, 0
-    .word 0x00000593  # addi x11, x0, 0
     .word 0x00000613  # addi x12, x0, 0
-    .word 0x00000693  # addi x13, x0, 0
-    .word 0x00000713  # addi x14, x0, 0
-    .word 0x00000793  # addi x15, x0, 0
-    .word 0x00258933  # add x18, x11, x2
-    .word 0x00161993  # slli x19, x12, 1
-    .word 0x002989b3  # add x19, x19, x2
-    .word 0x001c7837  # lui x16, 0x001c7
-    .word 0x1c780813  # addi x16, x16, 455
-    .word 0x002088b7  # lui x17, 0x00208
-    .word 0x20888893  # addi x17, x17, 520
-    .word 0x00001437  # lui x8, 0x00001
-    .word 0xd0140413  # addi x8, x8, -767
-    .word 0x002494b7  # lui x9, 0x00249
-    .word 0x24948493  # addi x9, x9, 585
-    .word 0x00000513  # addi x10, x0, 0
-    .word 0x00151293  # slli x5, x10, 1
-    .word 0x00a285b3  # add x11, x5, x10
-    .word 0x00258933  # add x18, x11, x2
-    .word 0x00251613  # slli x12, x10, 2
-    .word 0x00161993  # slli x19, x12, 1
-    .word 0x002989b3  # add x19, x19, x2
-    .word 0x00094283  # lbu x5, 0(x18)
-    .word 0x00194303  # lbu x6, 1(x18)
+    .word 0x001c7937  # lui x18, 0x001c7
+    .word 0x1c790913  # addi x18, x18, 455
+    .word 0x002089b7  # lui x19, 0x00208
+    .word 0x20898993  # addi x19, x19, 520
+    .word 0x00001537  # lui x10, 0x00001
+    .word 0xd0150513  # addi x10, x10, -767
+    .word 0x002495b7  # lui x11, 0x00249
+    .word 0x24958593  # addi x11, x11, 585
+    .word 0x00000613  # addi x12, x0, 0
+    .word 0x00161293  # slli x5, x12, 1
+    .word 0x00c286b3  # add x13, x5, x12
+    .word 0x00268a33  # add x20, x13, x2
+    .word 0x00261713  # slli x14, x12, 2
+    .word 0x00171a93  # slli x21, x14, 1
+    .word 0x002a8ab3  # add x21, x21, x2
+    .word 0x000a4283  # lbu x5, 0(x20)
+    .word 0x001a4303  # lbu x6, 1(x20)
     .word 0x00831313  # slli x6, x6, 8
     .word 0x0062e2b3  # or x5, x5, x6
-    .word 0x00294303  # lbu x6, 2(x18)
+    .word 0x002a4303  # lbu x6, 2(x20)
     .word 0x01031313  # slli x6, x6, 16
-    .word 0x0062e733  # or x14, x5, x6
-    .word 0x009772b3  # and x5, x14, x9
-    .word 0x00175313  # srli x6, x14, 1
-    .word 0x00937333  # and x6, x6, x9
+    .word 0x0062e833  # or x16, x5, x6
+    .word 0x00b872b3  # and x5, x16, x11
+    .word 0x00185313  # srli x6, x16, 1
+    .word 0x00b37333  # and x6, x6, x11
     .word 0x006282b3  # add x5, x5, x6
-    .word 0x00275313  # srli x6, x14, 2
-    .word 0x00937333  # and x6, x6, x9
-    .word 0x00628733  # add x14, x5, x6
-    .word 0x010772b3  # and x5, x14, x16
-    .word 0x011282b3  # add x5, x5, x17
-    .word 0x00375313  # srli x6, x14, 3
-    .word 0x01037333  # and x6, x6, x16
-    .word 0x406286b3  # sub x13, x5, x6
-    .word 0x00f6f293  # andi x5, x13, 15
-    .word 0xff828713  # addi x14, x5, -8
-    .word 0x01075293  # srli x5, x14, 16
-    .word 0x0082f7b3  # and x15, x5, x8
-    .word 0x00f702b3  # add x5, x14, x15
-    .word 0x0c599023  # sh x5, 192(x19)
-    .word 0x0066d293  # srli x5, x13, 6
+    .word 0x00285313  # srli x6, x16, 2
+    .word 0x00b37333  # and x6, x6, x11
+    .word 0x00628833  # add x16, x5, x6
+    .word 0x012872b3  # and x5, x16, x18
+    .word 0x013282b3  # add x5, x5, x19
+    .word 0x00385313  # srli x6, x16, 3
+    .word 0x01237333  # and x6, x6, x18
+    .word 0x406287b3  # sub x15, x5, x6
+    .word 0x00f7f293  # andi x5, x15, 15
+    .word 0xff828813  # addi x16, x5, -8
+    .word 0x01085293  # srli x5, x16, 16
+    .word 0x00a2f8b3  # and x17, x5, x10
+    .word 0x011802b3  # add x5, x16, x17
+    .word 0x0c5a9023  # sh x5, 192(x21)
+    .word 0x0067d293  # srli x5, x15, 6
     .word 0x00f2f293  # andi x5, x5, 15
-    .word 0xff828713  # addi x14, x5, -8
-    .word 0x01075293  # srli x5, x14, 16
-    .word 0x0082f7b3  # and x15, x5, x8
-    .word 0x00f702b3  # add x5, x14, x15
-    .word 0x0c599123  # sh x5, 194(x19)
-    .word 0x00c6d293  # srli x5, x13, 12
+    .word 0xff828813  # addi x16, x5, -8
+    .word 0x01085293  # srli x5, x16, 16
+    .word 0x00a2f8b3  # and x17, x5, x10
+    .word 0x011802b3  # add x5, x16, x17
+    .word 0x0c5a9123  # sh x5, 194(x21)
+    .word 0x00c7d293  # srli x5, x15, 12
     .word 0x00f2f293  # andi x5, x5, 15
-    .word 0xff828713  # addi x14, x5, -8
-    .word 0x01075293  # srli x5, x14, 16
-    .word 0x0082f7b3  # and x15, x5, x8
-    .word 0x00f702b3  # add x5, x14, x15
-    .word 0x0c599223  # sh x5, 196(x19)
-    .word 0x0126d293  # srli x5, x13, 18
+    .word 0xff828813  # addi x16, x5, -8
+    .word 0x01085293  # srli x5, x16, 16
+    .word 0x00a2f8b3  # and x17, x5, x10
+    .word 0x011802b3  # add x5, x16, x17
+    .word 0x0c5a9223  # sh x5, 196(x21)
+    .word 0x0127d293  # srli x5, x15, 18
     .word 0x00f2f293  # andi x5, x5, 15
-    .word 0xff828713  # addi x14, x5, -8
-    .word 0x01075293  # srli x5, x14, 16
-    .word 0x0082f7b3  # and x15, x5, x8
-    .word 0x00f702b3  # add x5, x14, x15
-    .word 0x0c599323  # sh x5, 198(x19)
-    .word 0x00150513  # addi x10, x10, 1
-    .word 0x04053293  # sltiu x5, x10, 64
+    .word 0xff828813  # addi x16, x5, -8
+    .word 0x01085293  # srli x5, x16, 16
+    .word 0x00a2f8b3  # and x17, x5, x10
+    .word 0x011802b3  # add x5, x16, x17
+    .word 0x0c5a9323  # sh x5, 198(x21)
+    .word 0x00160613  # addi x12, x12, 1
+    .word 0x04063293  # sltiu x5, x12, 64
     .word 0xf20294e3  # bne x5, x0, -216
-    .word 0xfff50513  # addi x10, x10, -1
+    .word 0xfff60613  # addi x12, x12, -1
     # the result
     .word 0x00000513  # addi x10, x0, 0
     # parameter 1: the array, back
-    .word 0x2ec12283  # lw x5, 748(x2)
-    .word 0x0c010313  # addi x6, x2, 192
-    .word 0x0032fe13  # andi x28, x5, 3
-    .word 0x020e0263  # beq x28, x0, 36
-    .word 0x20000393  # addi x7, x0, 512
-    .word 0x005383b3  # add x7, x7, x5
-    .word 0x00035e03  # lhu x28, 0(x6)
-    .word 0x01c29023  # sh x28, 0(x5)
-    .word 0x00228293  # addi x5, x5, 2
-    .word 0x00230313  # addi x6, x6, 2
-    .word 0xfe7298e3  # bne x5, x7, -16
-    .word 0x0380006f  # jal x0, 56
-    .word 0x20000393  # addi x7, x0, 512
-    .word 0x005383b3  # add x7, x7, x5
-    .word 0x00032e03  # lw x28, 0(x6)
-    .word 0x01c2a023  # sw x28, 0(x5)
-    .word 0x00432e03  # lw x28, 4(x6)
-    .word 0x01c2a223  # sw x28, 4(x5)
-    .word 0x00832e03  # lw x28, 8(x6)
-    .word 0x01c2a423  # sw x28, 8(x5)
-    .word 0x00c32e03  # lw x28, 12(x6)
-    .word 0x01c2a623  # sw x28, 12(x5)
-    .word 0x01028293  # addi x5, x5, 16
-    .word 0x01030313  # addi x6, x6, 16
-    .word 0xfc729ce3  # bne x5, x7, -40
+    .word 0x0c010293  # addi x5, x2, 192
+    .word 0x2ec12303  # lw x6, 748(x2)
+    .word 0x20028393  # addi x7, x5, 512
+    .word 0x07000f6f  # jal x30, 112
     # above the frame
     .word 0x2d010293  # addi x5, x2, 720
     # the caller's registers
-    .word 0x0002a403  # lw x8, 0(x5)
-    .cfi_restore 8
-    .word 0x0042a483  # lw x9, 4(x5)
-    .cfi_restore 9
-    .word 0x0082a903  # lw x18, 8(x5)
+    .word 0x0002a903  # lw x18, 0(x5)
     .cfi_restore 18
-    .word 0x00c2a983  # lw x19, 12(x5)
+    .word 0x0042a983  # lw x19, 4(x5)
     .cfi_restore 19
+    .word 0x0082aa03  # lw x20, 8(x5)
+    .cfi_restore 20
+    .word 0x00c2aa83  # lw x21, 12(x5)
+    .cfi_restore 21
     # the caller's x2
     .word 0x02028293  # addi x5, x5, 32
     .cfi_def_cfa 5, 0
@@ -202,16 +131,7 @@ mlkem_sample_cbd3:
     .word 0x00012423  # sw x0, 8(x2)
     .word 0x00012623  # sw x0, 12(x2)
     .word 0x01010113  # addi x2, x2, 16
-    .word 0x00012023  # sw x0, 0(x2)
-    .word 0x00012223  # sw x0, 4(x2)
-    .word 0x00012423  # sw x0, 8(x2)
-    .word 0x00012623  # sw x0, 12(x2)
-    .word 0x00012823  # sw x0, 16(x2)
-    .word 0x00012a23  # sw x0, 20(x2)
-    .word 0x00012c23  # sw x0, 24(x2)
-    .word 0x00012e23  # sw x0, 28(x2)
-    .word 0x02010113  # addi x2, x2, 32
-    .word 0xfc511ee3  # bne x2, x5, -36
+    .word 0xfe5116e3  # bne x2, x5, -20
     .cfi_def_cfa 2, 0
     # temporaries, wiped
     .word 0x00000293  # addi x5, x0, 0
@@ -230,6 +150,33 @@ mlkem_sample_cbd3:
     .word 0x00000f93  # addi x31, x0, 0
     # back
     .word 0x00008067  # jalr x0, 0(x1)
+    # from x5 to x6 up to x7, and back
+    .cfi_def_cfa 2, 752
+    .cfi_offset 18, -32
+    .cfi_offset 19, -28
+    .cfi_offset 20, -24
+    .cfi_offset 21, -20
+    .word 0x0062ee33  # or x28, x5, x6
+    .word 0x003e7e13  # andi x28, x28, 3
+    .word 0x000e0e63  # beq x28, x0, 28
+    .word 0x0002ce03  # lbu x28, 0(x5)
+    .word 0x01c30023  # sb x28, 0(x6)
+    .word 0x00128293  # addi x5, x5, 1
+    .word 0x00130313  # addi x6, x6, 1
+    .word 0xfe7298e3  # bne x5, x7, -16
+    .word 0x0300006f  # jal x0, 48
+    .word 0x0002ae03  # lw x28, 0(x5)
+    .word 0x01c32023  # sw x28, 0(x6)
+    .word 0x0042ae03  # lw x28, 4(x5)
+    .word 0x01c32223  # sw x28, 4(x6)
+    .word 0x0082ae03  # lw x28, 8(x5)
+    .word 0x01c32423  # sw x28, 8(x6)
+    .word 0x00c2ae03  # lw x28, 12(x5)
+    .word 0x01c32623  # sw x28, 12(x6)
+    .word 0x01028293  # addi x5, x5, 16
+    .word 0x01030313  # addi x6, x6, 16
+    .word 0xfc729ce3  # bne x5, x7, -40
+    .word 0x000f0067  # jalr x0, 0(x30)
     .cfi_endproc
     .size mlkem_sample_cbd3, . - mlkem_sample_cbd3
     .option pop

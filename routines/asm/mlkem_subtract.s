@@ -1,4 +1,4 @@
-# mlkem_subtract: made by factc 1.0.0 function; 154 words, 1056 bytes of stack, profile 1
+# mlkem_subtract: made by factc 1.0.0 function; 99 words, 1056 bytes of stack, profile 1
     .option push
     .option norvc
     .option norelax
@@ -13,10 +13,6 @@ mlkem_subtract:
     .word 0xff010113  # addi x2, x2, -16
     .cfi_def_cfa_offset 16
     # the caller's registers
-    .word 0x00812023  # sw x8, 0(x2)
-    .cfi_offset 8, -16
-    .word 0x00912223  # sw x9, 4(x2)
-    .cfi_offset 9, -12
     # arguments that are needed behind the body
     .word 0x00a12623  # sw x10, 12(x2)
     # the frame's base
@@ -25,135 +21,63 @@ mlkem_subtract:
     # parameter 0: an array
     .word 0x00050293  # addi x5, x10, 0
     .word 0x00010313  # addi x6, x2, 0
-    .word 0x0032fe13  # andi x28, x5, 3
-    .word 0x020e0263  # beq x28, x0, 36
-    .word 0x20000393  # addi x7, x0, 512
-    .word 0x005383b3  # add x7, x7, x5
-    .word 0x0002de03  # lhu x28, 0(x5)
-    .word 0x01c31023  # sh x28, 0(x6)
-    .word 0x00228293  # addi x5, x5, 2
-    .word 0x00230313  # addi x6, x6, 2
-    .word 0xfe7298e3  # bne x5, x7, -16
-    .word 0x0380006f  # jal x0, 56
-    .word 0x20000393  # addi x7, x0, 512
-    .word 0x005383b3  # add x7, x7, x5
-    .word 0x0002ae03  # lw x28, 0(x5)
-    .word 0x01c32023  # sw x28, 0(x6)
-    .word 0x0042ae03  # lw x28, 4(x5)
-    .word 0x01c32223  # sw x28, 4(x6)
-    .word 0x0082ae03  # lw x28, 8(x5)
-    .word 0x01c32423  # sw x28, 8(x6)
-    .word 0x00c2ae03  # lw x28, 12(x5)
-    .word 0x01c32623  # sw x28, 12(x6)
-    .word 0x01028293  # addi x5, x5, 16
-    .word 0x01030313  # addi x6, x6, 16
-    .word 0xfc729ce3  # bne x5, x7, -40
+    .word 0x20028393  # addi x7, x5, 512
+    .word 0x12000f6f  # jal x30, 288
     # parameter 1: an array
     .word 0x00058293  # addi x5, x11, 0
     .word 0x20010313  # addi x6, x2, 512
-    .word 0x0032fe13  # andi x28, x5, 3
-    .word 0x020e0263  # beq x28, x0, 36
-    .word 0x20000393  # addi x7, x0, 512
-    .word 0x005383b3  # add x7, x7, x5
-    .word 0x0002de03  # lhu x28, 0(x5)
-    .word 0x01c31023  # sh x28, 0(x6)
-    .word 0x00228293  # addi x5, x5, 2
-    .word 0x00230313  # addi x6, x6, 2
-    .word 0xfe7298e3  # bne x5, x7, -16
-    .word 0x0380006f  # jal x0, 56
-    .word 0x20000393  # addi x7, x0, 512
-    .word 0x005383b3  # add x7, x7, x5
-    .word 0x0002ae03  # lw x28, 0(x5)
-    .word 0x01c32023  # sw x28, 0(x6)
-    .word 0x0042ae03  # lw x28, 4(x5)
-    .word 0x01c32223  # sw x28, 4(x6)
-    .word 0x0082ae03  # lw x28, 8(x5)
-    .word 0x01c32423  # sw x28, 8(x6)
-    .word 0x00c2ae03  # lw x28, 12(x5)
-    .word 0x01c32623  # sw x28, 12(x6)
-    .word 0x01028293  # addi x5, x5, 16
-    .word 0x01030313  # addi x6, x6, 16
-    .word 0xfc729ce3  # bne x5, x7, -40
+    .word 0x20028393  # addi x7, x5, 512
+    .word 0x11000f6f  # jal x30, 272
     # the body
-    .word 0x00000493  # addi x9, x0, 0
-    .word 0x00000513  # addi x10, x0, 0
     .word 0x00000593  # addi x11, x0, 0
-    .word 0x00000613  # addi x12, x0, 0
-    .word 0x00161693  # slli x13, x12, 1
-    .word 0x002686b3  # add x13, x13, x2
-    .word 0x00001437  # lui x8, 0x00001
-    .word 0xd0140413  # addi x8, x8, -767
-    .word 0x00000493  # addi x9, x0, 0
-    .word 0x00249613  # slli x12, x9, 2
-    .word 0x00161693  # slli x13, x12, 1
-    .word 0x002686b3  # add x13, x13, x2
-    .word 0x0006d283  # lhu x5, 0(x13)
-    .word 0x2006d303  # lhu x6, 512(x13)
-    .word 0x40628533  # sub x10, x5, x6
-    .word 0x01055293  # srli x5, x10, 16
-    .word 0x0082f5b3  # and x11, x5, x8
-    .word 0x00b502b3  # add x5, x10, x11
-    .word 0x00569023  # sh x5, 0(x13)
-    .word 0x0026d283  # lhu x5, 2(x13)
-    .word 0x2026d303  # lhu x6, 514(x13)
-    .word 0x40628533  # sub x10, x5, x6
-    .word 0x01055293  # srli x5, x10, 16
-    .word 0x0082f5b3  # and x11, x5, x8
-    .word 0x00b502b3  # add x5, x10, x11
-    .word 0x00569123  # sh x5, 2(x13)
-    .word 0x0046d283  # lhu x5, 4(x13)
-    .word 0x2046d303  # lhu x6, 516(x13)
-    .word 0x40628533  # sub x10, x5, x6
-    .word 0x01055293  # srli x5, x10, 16
-    .word 0x0082f5b3  # and x11, x5, x8
-    .word 0x00b502b3  # add x5, x10, x11
-    .word 0x00569223  # sh x5, 4(x13)
-    .word 0x0066d283  # lhu x5, 6(x13)
-    .word 0x2066d303  # lhu x6, 518(x13)
-    .word 0x40628533  # sub x10, x5, x6
-    .word 0x01055293  # srli x5, x10, 16
-    .word 0x0082f5b3  # and x11, x5, x8
-    .word 0x00b502b3  # add x5, x10, x11
-    .word 0x00569323  # sh x5, 6(x13)
-    .word 0x00148493  # addi x9, x9, 1
-    .word 0x0404b293  # sltiu x5, x9, 64
+    .word 0x00001537  # lui x10, 0x00001
+    .word 0xd0150513  # addi x10, x10, -767
+    .word 0x00000593  # addi x11, x0, 0
+    .word 0x00259713  # slli x14, x11, 2
+    .word 0x00171793  # slli x15, x14, 1
+    .word 0x002787b3  # add x15, x15, x2
+    .word 0x0007d283  # lhu x5, 0(x15)
+    .word 0x2007d303  # lhu x6, 512(x15)
+    .word 0x40628633  # sub x12, x5, x6
+    .word 0x01065293  # srli x5, x12, 16
+    .word 0x00a2f6b3  # and x13, x5, x10
+    .word 0x00d602b3  # add x5, x12, x13
+    .word 0x00579023  # sh x5, 0(x15)
+    .word 0x0027d283  # lhu x5, 2(x15)
+    .word 0x2027d303  # lhu x6, 514(x15)
+    .word 0x40628633  # sub x12, x5, x6
+    .word 0x01065293  # srli x5, x12, 16
+    .word 0x00a2f6b3  # and x13, x5, x10
+    .word 0x00d602b3  # add x5, x12, x13
+    .word 0x00579123  # sh x5, 2(x15)
+    .word 0x0047d283  # lhu x5, 4(x15)
+    .word 0x2047d303  # lhu x6, 516(x15)
+    .word 0x40628633  # sub x12, x5, x6
+    .word 0x01065293  # srli x5, x12, 16
+    .word 0x00a2f6b3  # and x13, x5, x10
+    .word 0x00d602b3  # add x5, x12, x13
+    .word 0x00579223  # sh x5, 4(x15)
+    .word 0x0067d283  # lhu x5, 6(x15)
+    .word 0x2067d303  # lhu x6, 518(x15)
+    .word 0x40628633  # sub x12, x5, x6
+    .word 0x01065293  # srli x5, x12, 16
+    .word 0x00a2f6b3  # and x13, x5, x10
+    .word 0x00d602b3  # add x5, x12, x13
+    .word 0x00579323  # sh x5, 6(x15)
+    .word 0x00158593  # addi x11, x11, 1
+    .word 0x0405b293  # sltiu x5, x11, 64
     .word 0xf6029ee3  # bne x5, x0, -132
-    .word 0xfff48493  # addi x9, x9, -1
+    .word 0xfff58593  # addi x11, x11, -1
     # the result
     .word 0x00000513  # addi x10, x0, 0
     # parameter 0: the array, back
-    .word 0x41c12283  # lw x5, 1052(x2)
-    .word 0x00010313  # addi x6, x2, 0
-    .word 0x0032fe13  # andi x28, x5, 3
-    .word 0x020e0263  # beq x28, x0, 36
-    .word 0x20000393  # addi x7, x0, 512
-    .word 0x005383b3  # add x7, x7, x5
-    .word 0x00035e03  # lhu x28, 0(x6)
-    .word 0x01c29023  # sh x28, 0(x5)
-    .word 0x00228293  # addi x5, x5, 2
-    .word 0x00230313  # addi x6, x6, 2
-    .word 0xfe7298e3  # bne x5, x7, -16
-    .word 0x0380006f  # jal x0, 56
-    .word 0x20000393  # addi x7, x0, 512
-    .word 0x005383b3  # add x7, x7, x5
-    .word 0x00032e03  # lw x28, 0(x6)
-    .word 0x01c2a023  # sw x28, 0(x5)
-    .word 0x00432e03  # lw x28, 4(x6)
-    .word 0x01c2a223  # sw x28, 4(x5)
-    .word 0x00832e03  # lw x28, 8(x6)
-    .word 0x01c2a423  # sw x28, 8(x5)
-    .word 0x00c32e03  # lw x28, 12(x6)
-    .word 0x01c2a623  # sw x28, 12(x5)
-    .word 0x01028293  # addi x5, x5, 16
-    .word 0x01030313  # addi x6, x6, 16
-    .word 0xfc729ce3  # bne x5, x7, -40
+    .word 0x00010293  # addi x5, x2, 0
+    .word 0x41c12303  # lw x6, 1052(x2)
+    .word 0x20028393  # addi x7, x5, 512
+    .word 0x06000f6f  # jal x30, 96
     # above the frame
     .word 0x41010293  # addi x5, x2, 1040
     # the caller's registers
-    .word 0x0002a403  # lw x8, 0(x5)
-    .cfi_restore 8
-    .word 0x0042a483  # lw x9, 4(x5)
-    .cfi_restore 9
     # the caller's x2
     .word 0x01028293  # addi x5, x5, 16
     .cfi_def_cfa 5, 0
@@ -162,12 +86,8 @@ mlkem_subtract:
     .word 0x00012223  # sw x0, 4(x2)
     .word 0x00012423  # sw x0, 8(x2)
     .word 0x00012623  # sw x0, 12(x2)
-    .word 0x00012823  # sw x0, 16(x2)
-    .word 0x00012a23  # sw x0, 20(x2)
-    .word 0x00012c23  # sw x0, 24(x2)
-    .word 0x00012e23  # sw x0, 28(x2)
-    .word 0x02010113  # addi x2, x2, 32
-    .word 0xfc511ee3  # bne x2, x5, -36
+    .word 0x01010113  # addi x2, x2, 16
+    .word 0xfe5116e3  # bne x2, x5, -20
     .cfi_def_cfa 2, 0
     # temporaries, wiped
     .word 0x00000293  # addi x5, x0, 0
@@ -186,6 +106,29 @@ mlkem_subtract:
     .word 0x00000f93  # addi x31, x0, 0
     # back
     .word 0x00008067  # jalr x0, 0(x1)
+    # from x5 to x6 up to x7, and back
+    .cfi_def_cfa 2, 1056
+    .word 0x0062ee33  # or x28, x5, x6
+    .word 0x003e7e13  # andi x28, x28, 3
+    .word 0x000e0e63  # beq x28, x0, 28
+    .word 0x0002ce03  # lbu x28, 0(x5)
+    .word 0x01c30023  # sb x28, 0(x6)
+    .word 0x00128293  # addi x5, x5, 1
+    .word 0x00130313  # addi x6, x6, 1
+    .word 0xfe7298e3  # bne x5, x7, -16
+    .word 0x0300006f  # jal x0, 48
+    .word 0x0002ae03  # lw x28, 0(x5)
+    .word 0x01c32023  # sw x28, 0(x6)
+    .word 0x0042ae03  # lw x28, 4(x5)
+    .word 0x01c32223  # sw x28, 4(x6)
+    .word 0x0082ae03  # lw x28, 8(x5)
+    .word 0x01c32423  # sw x28, 8(x6)
+    .word 0x00c2ae03  # lw x28, 12(x5)
+    .word 0x01c32623  # sw x28, 12(x6)
+    .word 0x01028293  # addi x5, x5, 16
+    .word 0x01030313  # addi x6, x6, 16
+    .word 0xfc729ce3  # bne x5, x7, -40
+    .word 0x000f0067  # jalr x0, 0(x30)
     .cfi_endproc
     .size mlkem_subtract, . - mlkem_subtract
     .option pop

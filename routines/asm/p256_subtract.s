@@ -1,4 +1,4 @@
-# p256_subtract: made by factc 1.0.0 function; 183 words, 144 bytes of stack, profile 1
+# p256_subtract: made by factc 1.0.0 function; 153 words, 144 bytes of stack, profile 1
     .option push
     .option norvc
     .option norelax
@@ -13,14 +13,14 @@ p256_subtract:
     .word 0xfe010113  # addi x2, x2, -32
     .cfi_def_cfa_offset 32
     # the caller's registers
-    .word 0x00812023  # sw x8, 0(x2)
-    .cfi_offset 8, -32
-    .word 0x00912223  # sw x9, 4(x2)
-    .cfi_offset 9, -28
-    .word 0x01212423  # sw x18, 8(x2)
-    .cfi_offset 18, -24
-    .word 0x01312623  # sw x19, 12(x2)
-    .cfi_offset 19, -20
+    .word 0x01212023  # sw x18, 0(x2)
+    .cfi_offset 18, -32
+    .word 0x01312223  # sw x19, 4(x2)
+    .cfi_offset 19, -28
+    .word 0x01412423  # sw x20, 8(x2)
+    .cfi_offset 20, -24
+    .word 0x01512623  # sw x21, 12(x2)
+    .cfi_offset 21, -20
     # arguments that are needed behind the body
     .word 0x00a12a23  # sw x10, 20(x2)
     .word 0x00b12c23  # sw x11, 24(x2)
@@ -31,157 +31,115 @@ p256_subtract:
     # parameter 0: an array
     .word 0x00050293  # addi x5, x10, 0
     .word 0x00010313  # addi x6, x2, 0
-    .word 0x0002ae03  # lw x28, 0(x5)
-    .word 0x01c32023  # sw x28, 0(x6)
-    .word 0x0042ae03  # lw x28, 4(x5)
-    .word 0x01c32223  # sw x28, 4(x6)
-    .word 0x0082ae03  # lw x28, 8(x5)
-    .word 0x01c32423  # sw x28, 8(x6)
-    .word 0x00c2ae03  # lw x28, 12(x5)
-    .word 0x01c32623  # sw x28, 12(x6)
-    .word 0x0102ae03  # lw x28, 16(x5)
-    .word 0x01c32823  # sw x28, 16(x6)
-    .word 0x0142ae03  # lw x28, 20(x5)
-    .word 0x01c32a23  # sw x28, 20(x6)
-    .word 0x0182ae03  # lw x28, 24(x5)
-    .word 0x01c32c23  # sw x28, 24(x6)
-    .word 0x01c2ae03  # lw x28, 28(x5)
-    .word 0x01c32e23  # sw x28, 28(x6)
+    .word 0x02028393  # addi x7, x5, 32
+    .word 0x1e000f6f  # jal x30, 480
     # parameter 1: an array
     .word 0x00058293  # addi x5, x11, 0
     .word 0x02010313  # addi x6, x2, 32
-    .word 0x0002ae03  # lw x28, 0(x5)
-    .word 0x01c32023  # sw x28, 0(x6)
-    .word 0x0042ae03  # lw x28, 4(x5)
-    .word 0x01c32223  # sw x28, 4(x6)
-    .word 0x0082ae03  # lw x28, 8(x5)
-    .word 0x01c32423  # sw x28, 8(x6)
-    .word 0x00c2ae03  # lw x28, 12(x5)
-    .word 0x01c32623  # sw x28, 12(x6)
-    .word 0x0102ae03  # lw x28, 16(x5)
-    .word 0x01c32823  # sw x28, 16(x6)
-    .word 0x0142ae03  # lw x28, 20(x5)
-    .word 0x01c32a23  # sw x28, 20(x6)
-    .word 0x0182ae03  # lw x28, 24(x5)
-    .word 0x01c32c23  # sw x28, 24(x6)
-    .word 0x01c2ae03  # lw x28, 28(x5)
-    .word 0x01c32e23  # sw x28, 28(x6)
+    .word 0x02028393  # addi x7, x5, 32
+    .word 0x1d000f6f  # jal x30, 464
     # the body
-    .word 0x00012483  # lw x9, 0(x2)
-    .word 0x02012503  # lw x10, 32(x2)
-    .word 0x40a485b3  # sub x11, x9, x10
-    .word 0x00058613  # addi x12, x11, 0
-    .word 0x00a4b433  # sltu x8, x9, x10
-    .word 0x00412483  # lw x9, 4(x2)
-    .word 0x02412503  # lw x10, 36(x2)
-    .word 0x40a485b3  # sub x11, x9, x10
-    .word 0x408586b3  # sub x13, x11, x8
-    .word 0x00a4b2b3  # sltu x5, x9, x10
-    .word 0x0085b333  # sltu x6, x11, x8
-    .word 0x00628433  # add x8, x5, x6
-    .word 0x00812483  # lw x9, 8(x2)
-    .word 0x02812503  # lw x10, 40(x2)
-    .word 0x40a485b3  # sub x11, x9, x10
-    .word 0x40858733  # sub x14, x11, x8
-    .word 0x00a4b2b3  # sltu x5, x9, x10
-    .word 0x0085b333  # sltu x6, x11, x8
-    .word 0x00628433  # add x8, x5, x6
-    .word 0x00c12483  # lw x9, 12(x2)
-    .word 0x02c12503  # lw x10, 44(x2)
-    .word 0x40a485b3  # sub x11, x9, x10
-    .word 0x408587b3  # sub x15, x11, x8
-    .word 0x00a4b2b3  # sltu x5, x9, x10
-    .word 0x0085b333  # sltu x6, x11, x8
-    .word 0x00628433  # add x8, x5, x6
-    .word 0x01012483  # lw x9, 16(x2)
-    .word 0x03012503  # lw x10, 48(x2)
-    .word 0x40a485b3  # sub x11, x9, x10
-    .word 0x40858833  # sub x16, x11, x8
-    .word 0x00a4b2b3  # sltu x5, x9, x10
-    .word 0x0085b333  # sltu x6, x11, x8
-    .word 0x00628433  # add x8, x5, x6
-    .word 0x01412483  # lw x9, 20(x2)
-    .word 0x03412503  # lw x10, 52(x2)
-    .word 0x40a485b3  # sub x11, x9, x10
-    .word 0x408588b3  # sub x17, x11, x8
-    .word 0x00a4b2b3  # sltu x5, x9, x10
-    .word 0x0085b333  # sltu x6, x11, x8
-    .word 0x00628433  # add x8, x5, x6
-    .word 0x01812483  # lw x9, 24(x2)
-    .word 0x03812503  # lw x10, 56(x2)
-    .word 0x40a485b3  # sub x11, x9, x10
-    .word 0x40858933  # sub x18, x11, x8
-    .word 0x00a4b2b3  # sltu x5, x9, x10
-    .word 0x0085b333  # sltu x6, x11, x8
-    .word 0x00628433  # add x8, x5, x6
-    .word 0x01c12483  # lw x9, 28(x2)
-    .word 0x03c12503  # lw x10, 60(x2)
-    .word 0x40a485b3  # sub x11, x9, x10
-    .word 0x408589b3  # sub x19, x11, x8
-    .word 0x00a4b2b3  # sltu x5, x9, x10
-    .word 0x0085b333  # sltu x6, x11, x8
-    .word 0x00628433  # add x8, x5, x6
-    .word 0x00060513  # addi x10, x12, 0
-    .word 0x40860633  # sub x12, x12, x8
-    .word 0x008534b3  # sltu x9, x10, x8
-    .word 0x00068513  # addi x10, x13, 0
-    .word 0x409686b3  # sub x13, x13, x9
-    .word 0x009534b3  # sltu x9, x10, x9
-    .word 0x00070513  # addi x10, x14, 0
-    .word 0x40970733  # sub x14, x14, x9
-    .word 0x009534b3  # sltu x9, x10, x9
-    .word 0x409404b3  # sub x9, x8, x9
-    .word 0x009787b3  # add x15, x15, x9
-    .word 0x0097b4b3  # sltu x9, x15, x9
-    .word 0x00980833  # add x16, x16, x9
-    .word 0x009834b3  # sltu x9, x16, x9
-    .word 0x009888b3  # add x17, x17, x9
-    .word 0x0098b4b3  # sltu x9, x17, x9
-    .word 0x008484b3  # add x9, x9, x8
-    .word 0x00990933  # add x18, x18, x9
-    .word 0x009934b3  # sltu x9, x18, x9
-    .word 0x009982b3  # add x5, x19, x9
-    .word 0x408289b3  # sub x19, x5, x8
-    .word 0x04c12023  # sw x12, 64(x2)
-    .word 0x04d12223  # sw x13, 68(x2)
-    .word 0x04e12423  # sw x14, 72(x2)
-    .word 0x04f12623  # sw x15, 76(x2)
-    .word 0x05012823  # sw x16, 80(x2)
-    .word 0x05112a23  # sw x17, 84(x2)
-    .word 0x05212c23  # sw x18, 88(x2)
-    .word 0x05312e23  # sw x19, 92(x2)
+    .word 0x00012583  # lw x11, 0(x2)
+    .word 0x02012603  # lw x12, 32(x2)
+    .word 0x40c586b3  # sub x13, x11, x12
+    .word 0x00068713  # addi x14, x13, 0
+    .word 0x00c5b533  # sltu x10, x11, x12
+    .word 0x00412583  # lw x11, 4(x2)
+    .word 0x02412603  # lw x12, 36(x2)
+    .word 0x40c586b3  # sub x13, x11, x12
+    .word 0x40a687b3  # sub x15, x13, x10
+    .word 0x00c5b2b3  # sltu x5, x11, x12
+    .word 0x00a6b333  # sltu x6, x13, x10
+    .word 0x00628533  # add x10, x5, x6
+    .word 0x00812583  # lw x11, 8(x2)
+    .word 0x02812603  # lw x12, 40(x2)
+    .word 0x40c586b3  # sub x13, x11, x12
+    .word 0x40a68833  # sub x16, x13, x10
+    .word 0x00c5b2b3  # sltu x5, x11, x12
+    .word 0x00a6b333  # sltu x6, x13, x10
+    .word 0x00628533  # add x10, x5, x6
+    .word 0x00c12583  # lw x11, 12(x2)
+    .word 0x02c12603  # lw x12, 44(x2)
+    .word 0x40c586b3  # sub x13, x11, x12
+    .word 0x40a688b3  # sub x17, x13, x10
+    .word 0x00c5b2b3  # sltu x5, x11, x12
+    .word 0x00a6b333  # sltu x6, x13, x10
+    .word 0x00628533  # add x10, x5, x6
+    .word 0x01012583  # lw x11, 16(x2)
+    .word 0x03012603  # lw x12, 48(x2)
+    .word 0x40c586b3  # sub x13, x11, x12
+    .word 0x40a68933  # sub x18, x13, x10
+    .word 0x00c5b2b3  # sltu x5, x11, x12
+    .word 0x00a6b333  # sltu x6, x13, x10
+    .word 0x00628533  # add x10, x5, x6
+    .word 0x01412583  # lw x11, 20(x2)
+    .word 0x03412603  # lw x12, 52(x2)
+    .word 0x40c586b3  # sub x13, x11, x12
+    .word 0x40a689b3  # sub x19, x13, x10
+    .word 0x00c5b2b3  # sltu x5, x11, x12
+    .word 0x00a6b333  # sltu x6, x13, x10
+    .word 0x00628533  # add x10, x5, x6
+    .word 0x01812583  # lw x11, 24(x2)
+    .word 0x03812603  # lw x12, 56(x2)
+    .word 0x40c586b3  # sub x13, x11, x12
+    .word 0x40a68a33  # sub x20, x13, x10
+    .word 0x00c5b2b3  # sltu x5, x11, x12
+    .word 0x00a6b333  # sltu x6, x13, x10
+    .word 0x00628533  # add x10, x5, x6
+    .word 0x01c12583  # lw x11, 28(x2)
+    .word 0x03c12603  # lw x12, 60(x2)
+    .word 0x40c586b3  # sub x13, x11, x12
+    .word 0x40a68ab3  # sub x21, x13, x10
+    .word 0x00c5b2b3  # sltu x5, x11, x12
+    .word 0x00a6b333  # sltu x6, x13, x10
+    .word 0x00628533  # add x10, x5, x6
+    .word 0x00070613  # addi x12, x14, 0
+    .word 0x40a70733  # sub x14, x14, x10
+    .word 0x00a635b3  # sltu x11, x12, x10
+    .word 0x00078613  # addi x12, x15, 0
+    .word 0x40b787b3  # sub x15, x15, x11
+    .word 0x00b635b3  # sltu x11, x12, x11
+    .word 0x00080613  # addi x12, x16, 0
+    .word 0x40b80833  # sub x16, x16, x11
+    .word 0x00b635b3  # sltu x11, x12, x11
+    .word 0x40b505b3  # sub x11, x10, x11
+    .word 0x00b888b3  # add x17, x17, x11
+    .word 0x00b8b5b3  # sltu x11, x17, x11
+    .word 0x00b90933  # add x18, x18, x11
+    .word 0x00b935b3  # sltu x11, x18, x11
+    .word 0x00b989b3  # add x19, x19, x11
+    .word 0x00b9b5b3  # sltu x11, x19, x11
+    .word 0x00a585b3  # add x11, x11, x10
+    .word 0x00ba0a33  # add x20, x20, x11
+    .word 0x00ba35b3  # sltu x11, x20, x11
+    .word 0x00ba82b3  # add x5, x21, x11
+    .word 0x40a28ab3  # sub x21, x5, x10
+    .word 0x04e12023  # sw x14, 64(x2)
+    .word 0x04f12223  # sw x15, 68(x2)
+    .word 0x05012423  # sw x16, 72(x2)
+    .word 0x05112623  # sw x17, 76(x2)
+    .word 0x05212823  # sw x18, 80(x2)
+    .word 0x05312a23  # sw x19, 84(x2)
+    .word 0x05412c23  # sw x20, 88(x2)
+    .word 0x05512e23  # sw x21, 92(x2)
     # the result
     .word 0x00000513  # addi x10, x0, 0
     # parameter 2: the array, back
-    .word 0x08c12283  # lw x5, 140(x2)
-    .word 0x04010313  # addi x6, x2, 64
-    .word 0x00032e03  # lw x28, 0(x6)
-    .word 0x01c2a023  # sw x28, 0(x5)
-    .word 0x00432e03  # lw x28, 4(x6)
-    .word 0x01c2a223  # sw x28, 4(x5)
-    .word 0x00832e03  # lw x28, 8(x6)
-    .word 0x01c2a423  # sw x28, 8(x5)
-    .word 0x00c32e03  # lw x28, 12(x6)
-    .word 0x01c2a623  # sw x28, 12(x5)
-    .word 0x01032e03  # lw x28, 16(x6)
-    .word 0x01c2a823  # sw x28, 16(x5)
-    .word 0x01432e03  # lw x28, 20(x6)
-    .word 0x01c2aa23  # sw x28, 20(x5)
-    .word 0x01832e03  # lw x28, 24(x6)
-    .word 0x01c2ac23  # sw x28, 24(x5)
-    .word 0x01c32e03  # lw x28, 28(x6)
-    .word 0x01c2ae23  # sw x28, 28(x5)
+    .word 0x04010293  # addi x5, x2, 64
+    .word 0x08c12303  # lw x6, 140(x2)
+    .word 0x02028393  # addi x7, x5, 32
+    .word 0x07000f6f  # jal x30, 112
     # above the frame
     .word 0x07010293  # addi x5, x2, 112
     # the caller's registers
-    .word 0x0002a403  # lw x8, 0(x5)
-    .cfi_restore 8
-    .word 0x0042a483  # lw x9, 4(x5)
-    .cfi_restore 9
-    .word 0x0082a903  # lw x18, 8(x5)
+    .word 0x0002a903  # lw x18, 0(x5)
     .cfi_restore 18
-    .word 0x00c2a983  # lw x19, 12(x5)
+    .word 0x0042a983  # lw x19, 4(x5)
     .cfi_restore 19
+    .word 0x0082aa03  # lw x20, 8(x5)
+    .cfi_restore 20
+    .word 0x00c2aa83  # lw x21, 12(x5)
+    .cfi_restore 21
     # the caller's x2
     .word 0x02028293  # addi x5, x5, 32
     .cfi_def_cfa 5, 0
@@ -191,16 +149,7 @@ p256_subtract:
     .word 0x00012423  # sw x0, 8(x2)
     .word 0x00012623  # sw x0, 12(x2)
     .word 0x01010113  # addi x2, x2, 16
-    .word 0x00012023  # sw x0, 0(x2)
-    .word 0x00012223  # sw x0, 4(x2)
-    .word 0x00012423  # sw x0, 8(x2)
-    .word 0x00012623  # sw x0, 12(x2)
-    .word 0x00012823  # sw x0, 16(x2)
-    .word 0x00012a23  # sw x0, 20(x2)
-    .word 0x00012c23  # sw x0, 24(x2)
-    .word 0x00012e23  # sw x0, 28(x2)
-    .word 0x02010113  # addi x2, x2, 32
-    .word 0xfc511ee3  # bne x2, x5, -36
+    .word 0xfe5116e3  # bne x2, x5, -20
     .cfi_def_cfa 2, 0
     # temporaries, wiped
     .word 0x00000293  # addi x5, x0, 0
@@ -219,6 +168,33 @@ p256_subtract:
     .word 0x00000f93  # addi x31, x0, 0
     # back
     .word 0x00008067  # jalr x0, 0(x1)
+    # from x5 to x6 up to x7, and back
+    .cfi_def_cfa 2, 144
+    .cfi_offset 18, -32
+    .cfi_offset 19, -28
+    .cfi_offset 20, -24
+    .cfi_offset 21, -20
+    .word 0x0062ee33  # or x28, x5, x6
+    .word 0x003e7e13  # andi x28, x28, 3
+    .word 0x000e0e63  # beq x28, x0, 28
+    .word 0x0002ce03  # lbu x28, 0(x5)
+    .word 0x01c30023  # sb x28, 0(x6)
+    .word 0x00128293  # addi x5, x5, 1
+    .word 0x00130313  # addi x6, x6, 1
+    .word 0xfe7298e3  # bne x5, x7, -16
+    .word 0x0300006f  # jal x0, 48
+    .word 0x0002ae03  # lw x28, 0(x5)
+    .word 0x01c32023  # sw x28, 0(x6)
+    .word 0x0042ae03  # lw x28, 4(x5)
+    .word 0x01c32223  # sw x28, 4(x6)
+    .word 0x0082ae03  # lw x28, 8(x5)
+    .word 0x01c32423  # sw x28, 8(x6)
+    .word 0x00c2ae03  # lw x28, 12(x5)
+    .word 0x01c32623  # sw x28, 12(x6)
+    .word 0x01028293  # addi x5, x5, 16
+    .word 0x01030313  # addi x6, x6, 16
+    .word 0xfc729ce3  # bne x5, x7, -40
+    .word 0x000f0067  # jalr x0, 0(x30)
     .cfi_endproc
     .size p256_subtract, . - p256_subtract
     .option pop

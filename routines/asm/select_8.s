@@ -1,4 +1,4 @@
-# select_8: made by factc 1.0.0 function; 100 words, 64 bytes of stack, profile 1
+# select_8: made by factc 1.0.0 function; 98 words, 48 bytes of stack, profile 1
     .option push
     .option norvc
     .option norelax
@@ -10,109 +10,82 @@
 select_8:
     .cfi_startproc
     # room above the frame
-    .word 0xff010113  # addi x2, x2, -16
-    .cfi_def_cfa_offset 16
+    .cfi_def_cfa_offset 0
     # the caller's registers
-    .word 0x00812023  # sw x8, 0(x2)
-    .cfi_offset 8, -16
-    .word 0x00912223  # sw x9, 4(x2)
-    .cfi_offset 9, -12
     # arguments that are needed behind the body
     # the frame's base
     .word 0xfd010113  # addi x2, x2, -48
-    .cfi_def_cfa 2, 64
+    .cfi_def_cfa 2, 48
     # parameter 0: a word
     .word 0x00a12023  # sw x10, 0(x2)
     # parameter 1: an array
     .word 0x00058293  # addi x5, x11, 0
     .word 0x00410313  # addi x6, x2, 4
-    .word 0x0002ae03  # lw x28, 0(x5)
-    .word 0x01c32023  # sw x28, 0(x6)
-    .word 0x0042ae03  # lw x28, 4(x5)
-    .word 0x01c32223  # sw x28, 4(x6)
-    .word 0x0082ae03  # lw x28, 8(x5)
-    .word 0x01c32423  # sw x28, 8(x6)
-    .word 0x00c2ae03  # lw x28, 12(x5)
-    .word 0x01c32623  # sw x28, 12(x6)
-    .word 0x0102ae03  # lw x28, 16(x5)
-    .word 0x01c32823  # sw x28, 16(x6)
-    .word 0x0142ae03  # lw x28, 20(x5)
-    .word 0x01c32a23  # sw x28, 20(x6)
-    .word 0x0182ae03  # lw x28, 24(x5)
-    .word 0x01c32c23  # sw x28, 24(x6)
-    .word 0x01c2ae03  # lw x28, 28(x5)
-    .word 0x01c32e23  # sw x28, 28(x6)
+    .word 0x02028393  # addi x7, x5, 32
+    .word 0x12000f6f  # jal x30, 288
     # the body
-    .word 0x00012403  # lw x8, 0(x2)
-    .word 0x00147293  # andi x5, x8, 1
-    .word 0xfff28493  # addi x9, x5, -1
-    .word 0x0014b493  # sltiu x9, x9, 1
+    .word 0x00012503  # lw x10, 0(x2)
+    .word 0x00157293  # andi x5, x10, 1
+    .word 0xfff28593  # addi x11, x5, -1
+    .word 0x0015b593  # sltiu x11, x11, 1
     .word 0x00812303  # lw x6, 8(x2)
     .word 0x00412383  # lw x7, 4(x2)
-    .word 0x409002b3  # sub x5, x0, x9
-    .word 0x00734333  # xor x6, x6, x7
-    .word 0x00537333  # and x6, x6, x5
-    .word 0x0063c533  # xor x10, x7, x6
-    .word 0x01012303  # lw x6, 16(x2)
-    .word 0x00c12383  # lw x7, 12(x2)
-    .word 0x409002b3  # sub x5, x0, x9
-    .word 0x00734333  # xor x6, x6, x7
-    .word 0x00537333  # and x6, x6, x5
-    .word 0x0063c5b3  # xor x11, x7, x6
-    .word 0x01812303  # lw x6, 24(x2)
-    .word 0x01412383  # lw x7, 20(x2)
-    .word 0x409002b3  # sub x5, x0, x9
+    .word 0x40b002b3  # sub x5, x0, x11
     .word 0x00734333  # xor x6, x6, x7
     .word 0x00537333  # and x6, x6, x5
     .word 0x0063c633  # xor x12, x7, x6
-    .word 0x02012303  # lw x6, 32(x2)
-    .word 0x01c12383  # lw x7, 28(x2)
-    .word 0x409002b3  # sub x5, x0, x9
+    .word 0x01012303  # lw x6, 16(x2)
+    .word 0x00c12383  # lw x7, 12(x2)
+    .word 0x40b002b3  # sub x5, x0, x11
     .word 0x00734333  # xor x6, x6, x7
     .word 0x00537333  # and x6, x6, x5
     .word 0x0063c6b3  # xor x13, x7, x6
-    .word 0x00247293  # andi x5, x8, 2
-    .word 0xffe28493  # addi x9, x5, -2
-    .word 0x0014b493  # sltiu x9, x9, 1
-    .word 0x409002b3  # sub x5, x0, x9
-    .word 0x00a5c333  # xor x6, x11, x10
+    .word 0x01812303  # lw x6, 24(x2)
+    .word 0x01412383  # lw x7, 20(x2)
+    .word 0x40b002b3  # sub x5, x0, x11
+    .word 0x00734333  # xor x6, x6, x7
     .word 0x00537333  # and x6, x6, x5
-    .word 0x00654533  # xor x10, x10, x6
-    .word 0x409002b3  # sub x5, x0, x9
+    .word 0x0063c733  # xor x14, x7, x6
+    .word 0x02012303  # lw x6, 32(x2)
+    .word 0x01c12383  # lw x7, 28(x2)
+    .word 0x40b002b3  # sub x5, x0, x11
+    .word 0x00734333  # xor x6, x6, x7
+    .word 0x00537333  # and x6, x6, x5
+    .word 0x0063c7b3  # xor x15, x7, x6
+    .word 0x00257293  # andi x5, x10, 2
+    .word 0xffe28593  # addi x11, x5, -2
+    .word 0x0015b593  # sltiu x11, x11, 1
+    .word 0x40b002b3  # sub x5, x0, x11
     .word 0x00c6c333  # xor x6, x13, x12
     .word 0x00537333  # and x6, x6, x5
-    .word 0x006645b3  # xor x11, x12, x6
-    .word 0x00447293  # andi x5, x8, 4
+    .word 0x00664633  # xor x12, x12, x6
+    .word 0x40b002b3  # sub x5, x0, x11
+    .word 0x00e7c333  # xor x6, x15, x14
+    .word 0x00537333  # and x6, x6, x5
+    .word 0x006746b3  # xor x13, x14, x6
+    .word 0x00457293  # andi x5, x10, 4
     .word 0xffc28293  # addi x5, x5, -4
     .word 0x005032b3  # sltu x5, x0, x5
     .word 0xfff28293  # addi x5, x5, -1
-    .word 0x00a5c333  # xor x6, x11, x10
+    .word 0x00c6c333  # xor x6, x13, x12
     .word 0x00537333  # and x6, x6, x5
-    .word 0x006542b3  # xor x5, x10, x6
+    .word 0x006642b3  # xor x5, x12, x6
     .word 0x02512223  # sw x5, 36(x2)
     # the result
     .word 0x02412503  # lw x10, 36(x2)
     # above the frame
     .word 0x03010293  # addi x5, x2, 48
     # the caller's registers
-    .word 0x0002a403  # lw x8, 0(x5)
-    .cfi_restore 8
-    .word 0x0042a483  # lw x9, 4(x5)
-    .cfi_restore 9
     # the caller's x2
-    .word 0x01028293  # addi x5, x5, 16
+    .word 0x00028293  # addi x5, x5, 0
     .cfi_def_cfa 5, 0
     # all the room, wiped upward
     .word 0x00012023  # sw x0, 0(x2)
     .word 0x00012223  # sw x0, 4(x2)
     .word 0x00012423  # sw x0, 8(x2)
     .word 0x00012623  # sw x0, 12(x2)
-    .word 0x00012823  # sw x0, 16(x2)
-    .word 0x00012a23  # sw x0, 20(x2)
-    .word 0x00012c23  # sw x0, 24(x2)
-    .word 0x00012e23  # sw x0, 28(x2)
-    .word 0x02010113  # addi x2, x2, 32
-    .word 0xfc511ee3  # bne x2, x5, -36
+    .word 0x01010113  # addi x2, x2, 16
+    .word 0xfe5116e3  # bne x2, x5, -20
     .cfi_def_cfa 2, 0
     # temporaries, wiped
     .word 0x00000293  # addi x5, x0, 0
@@ -131,6 +104,29 @@ select_8:
     .word 0x00000f93  # addi x31, x0, 0
     # back
     .word 0x00008067  # jalr x0, 0(x1)
+    # from x5 to x6 up to x7, and back
+    .cfi_def_cfa 2, 48
+    .word 0x0062ee33  # or x28, x5, x6
+    .word 0x003e7e13  # andi x28, x28, 3
+    .word 0x000e0e63  # beq x28, x0, 28
+    .word 0x0002ce03  # lbu x28, 0(x5)
+    .word 0x01c30023  # sb x28, 0(x6)
+    .word 0x00128293  # addi x5, x5, 1
+    .word 0x00130313  # addi x6, x6, 1
+    .word 0xfe7298e3  # bne x5, x7, -16
+    .word 0x0300006f  # jal x0, 48
+    .word 0x0002ae03  # lw x28, 0(x5)
+    .word 0x01c32023  # sw x28, 0(x6)
+    .word 0x0042ae03  # lw x28, 4(x5)
+    .word 0x01c32223  # sw x28, 4(x6)
+    .word 0x0082ae03  # lw x28, 8(x5)
+    .word 0x01c32423  # sw x28, 8(x6)
+    .word 0x00c2ae03  # lw x28, 12(x5)
+    .word 0x01c32623  # sw x28, 12(x6)
+    .word 0x01028293  # addi x5, x5, 16
+    .word 0x01030313  # addi x6, x6, 16
+    .word 0xfc729ce3  # bne x5, x7, -40
+    .word 0x000f0067  # jalr x0, 0(x30)
     .cfi_endproc
     .size select_8, . - select_8
     .option pop

@@ -1,4 +1,4 @@
-# sha_pad_block: made by factc 1.0.0 function; 211 words, 112 bytes of stack, profile 1
+# sha_pad_block: made by factc 1.0.0 function; 141 words, 128 bytes of stack, profile 1
     .option push
     .option norvc
     .option norelax
@@ -10,63 +10,45 @@
 sha_pad_block:
     .cfi_startproc
     # room above the frame
-    .word 0xff010113  # addi x2, x2, -16
-    .cfi_def_cfa_offset 16
+    .word 0xfe010113  # addi x2, x2, -32
+    .cfi_def_cfa_offset 32
     # the caller's registers
     .word 0x00812023  # sw x8, 0(x2)
-    .cfi_offset 8, -16
+    .cfi_offset 8, -32
     .word 0x00912223  # sw x9, 4(x2)
-    .cfi_offset 9, -12
+    .cfi_offset 9, -28
     .word 0x01212423  # sw x18, 8(x2)
-    .cfi_offset 18, -8
+    .cfi_offset 18, -24
+    .word 0x01312623  # sw x19, 12(x2)
+    .cfi_offset 19, -20
+    .word 0x01412823  # sw x20, 16(x2)
+    .cfi_offset 20, -16
     # arguments that are needed behind the body
-    .word 0x00a12623  # sw x10, 12(x2)
+    .word 0x00a12e23  # sw x10, 28(x2)
     # the frame's base
     .word 0xfa010113  # addi x2, x2, -96
-    .cfi_def_cfa 2, 112
+    .cfi_def_cfa 2, 128
     # parameter 0: an array
     .word 0x00050293  # addi x5, x10, 0
     .word 0x00010313  # addi x6, x2, 0
-    .word 0x0032fe13  # andi x28, x5, 3
-    .word 0x020e0263  # beq x28, x0, 36
-    .word 0x04000393  # addi x7, x0, 64
-    .word 0x005383b3  # add x7, x7, x5
-    .word 0x0002ce03  # lbu x28, 0(x5)
-    .word 0x01c30023  # sb x28, 0(x6)
-    .word 0x00128293  # addi x5, x5, 1
-    .word 0x00130313  # addi x6, x6, 1
-    .word 0xfe7298e3  # bne x5, x7, -16
-    .word 0x0380006f  # jal x0, 56
-    .word 0x04000393  # addi x7, x0, 64
-    .word 0x005383b3  # add x7, x7, x5
-    .word 0x0002ae03  # lw x28, 0(x5)
-    .word 0x01c32023  # sw x28, 0(x6)
-    .word 0x0042ae03  # lw x28, 4(x5)
-    .word 0x01c32223  # sw x28, 4(x6)
-    .word 0x0082ae03  # lw x28, 8(x5)
-    .word 0x01c32423  # sw x28, 8(x6)
-    .word 0x00c2ae03  # lw x28, 12(x5)
-    .word 0x01c32623  # sw x28, 12(x6)
-    .word 0x01028293  # addi x5, x5, 16
-    .word 0x01030313  # addi x6, x6, 16
-    .word 0xfc729ce3  # bne x5, x7, -40
+    .word 0x04028393  # addi x7, x5, 64
+    .word 0x1b400f6f  # jal x30, 436
     # parameter 1: a word
     .word 0x04b12023  # sw x11, 64(x2)
     # parameter 2: a word
     .word 0x04c12223  # sw x12, 68(x2)
     # the body
-    .word 0x04012503  # lw x10, 64(x2)
-    .word 0x04412583  # lw x11, 68(x2)
-    .word 0x00000693  # addi x13, x0, 0
-    .word 0x00000713  # addi x14, x0, 0
+    .word 0x04012583  # lw x11, 64(x2)
+    .word 0x04412603  # lw x12, 68(x2)
     .word 0x00000793  # addi x15, x0, 0
-    .word 0x00651893  # slli x17, x10, 6
-    .word 0x00288933  # add x18, x17, x2
-    .word 0x41158633  # sub x12, x11, x17
-    .word 0x0115b2b3  # sltu x5, x11, x17
+    .word 0x00000993  # addi x19, x0, 0
+    .word 0x00278a33  # add x20, x15, x2
+    .word 0x00659693  # slli x13, x11, 6
+    .word 0x40d60733  # sub x14, x12, x13
+    .word 0x00d632b3  # sltu x5, x12, x13
     .word 0x00100313  # addi x6, x0, 1
-    .word 0x04063393  # sltiu x7, x12, 64
-    .word 0x40c00433  # sub x8, x0, x12
+    .word 0x04073393  # sltiu x7, x14, 64
+    .word 0x40e00433  # sub x8, x0, x14
     .word 0x000004b7  # lui x9, 0x00000
     .word 0xfc048493  # addi x9, x9, -64
     .word 0x407003b3  # sub x7, x0, x7
@@ -76,130 +58,66 @@ sha_pad_block:
     .word 0x405002b3  # sub x5, x0, x5
     .word 0x00734333  # xor x6, x6, x7
     .word 0x00537333  # and x6, x6, x5
-    .word 0x0063c633  # xor x12, x7, x6
-    .word 0x00000693  # addi x13, x0, 0
-    .word 0x00269893  # slli x17, x13, 2
-    .word 0x00288933  # add x18, x17, x2
-    .word 0xfff60713  # addi x14, x12, -1
-    .word 0x00094283  # lbu x5, 0(x18)
-    .word 0x00865313  # srli x6, x12, 8
-    .word 0x0062f7b3  # and x15, x5, x6
-    .word 0x00c742b3  # xor x5, x14, x12
-    .word 0x00e2f2b3  # and x5, x5, x14
-    .word 0x0802f713  # andi x14, x5, 128
-    .word 0x00e7e2b3  # or x5, x15, x14
-    .word 0x00590023  # sb x5, 0(x18)
-    .word 0x00160613  # addi x12, x12, 1
-    .word 0xfff60713  # addi x14, x12, -1
-    .word 0x00194283  # lbu x5, 1(x18)
-    .word 0x00865313  # srli x6, x12, 8
-    .word 0x0062f7b3  # and x15, x5, x6
-    .word 0x00c742b3  # xor x5, x14, x12
-    .word 0x00e2f2b3  # and x5, x5, x14
-    .word 0x0802f713  # andi x14, x5, 128
-    .word 0x00e7e2b3  # or x5, x15, x14
-    .word 0x005900a3  # sb x5, 1(x18)
-    .word 0x00160613  # addi x12, x12, 1
-    .word 0xfff60713  # addi x14, x12, -1
-    .word 0x00294283  # lbu x5, 2(x18)
-    .word 0x00865313  # srli x6, x12, 8
-    .word 0x0062f7b3  # and x15, x5, x6
-    .word 0x00c742b3  # xor x5, x14, x12
-    .word 0x00e2f2b3  # and x5, x5, x14
-    .word 0x0802f713  # andi x14, x5, 128
-    .word 0x00e7e2b3  # or x5, x15, x14
-    .word 0x00590123  # sb x5, 2(x18)
-    .word 0x00160613  # addi x12, x12, 1
-    .word 0xfff60713  # addi x14, x12, -1
-    .word 0x00394283  # lbu x5, 3(x18)
-    .word 0x00865313  # srli x6, x12, 8
-    .word 0x0062f7b3  # and x15, x5, x6
-    .word 0x00c742b3  # xor x5, x14, x12
-    .word 0x00e2f2b3  # and x5, x5, x14
-    .word 0x0802f713  # andi x14, x5, 128
-    .word 0x00e7e2b3  # or x5, x15, x14
-    .word 0x005901a3  # sb x5, 3(x18)
-    .word 0x00160613  # addi x12, x12, 1
-    .word 0x00168693  # addi x13, x13, 1
-    .word 0x0106b293  # sltiu x5, x13, 16
-    .word 0xf40298e3  # bne x5, x0, -176
-    .word 0xfff68693  # addi x13, x13, -1
-    .word 0x00858293  # addi x5, x11, 8
+    .word 0x0063c733  # xor x14, x7, x6
+    .word 0x00000793  # addi x15, x0, 0
+    .word 0x00278a33  # add x20, x15, x2
+    .word 0xfff70813  # addi x16, x14, -1
+    .word 0x000a4283  # lbu x5, 0(x20)
+    .word 0x00875313  # srli x6, x14, 8
+    .word 0x0062f8b3  # and x17, x5, x6
+    .word 0x00e842b3  # xor x5, x16, x14
+    .word 0x0102f2b3  # and x5, x5, x16
+    .word 0x0802f813  # andi x16, x5, 128
+    .word 0x0108e2b3  # or x5, x17, x16
+    .word 0x005a0023  # sb x5, 0(x20)
+    .word 0x00170713  # addi x14, x14, 1
+    .word 0x00178793  # addi x15, x15, 1
+    .word 0x00278a33  # add x20, x15, x2
+    .word 0x0407b293  # sltiu x5, x15, 64
+    .word 0xfc0296e3  # bne x5, x0, -52
+    .word 0xfff78793  # addi x15, x15, -1
+    .word 0x00278a33  # add x20, x15, x2
+    .word 0x00860293  # addi x5, x12, 8
     .word 0x0062d293  # srli x5, x5, 6
-    .word 0x40a28833  # sub x16, x5, x10
-    .word 0x00183813  # sltiu x16, x16, 1
-    .word 0x01d5d313  # srli x6, x11, 29
+    .word 0x40b28933  # sub x18, x5, x11
+    .word 0x00193913  # sltiu x18, x18, 1
+    .word 0x01d65313  # srli x6, x12, 29
     .word 0x0ff37313  # andi x6, x6, 255
     .word 0x03b14383  # lbu x7, 59(x2)
-    .word 0x410002b3  # sub x5, x0, x16
+    .word 0x412002b3  # sub x5, x0, x18
     .word 0x00734333  # xor x6, x6, x7
     .word 0x00537333  # and x6, x6, x5
     .word 0x0063c2b3  # xor x5, x7, x6
     .word 0x02510da3  # sb x5, 59(x2)
-    .word 0x00359313  # slli x6, x11, 3
-    .word 0x01835313  # srli x6, x6, 24
-    .word 0x0ff37313  # andi x6, x6, 255
-    .word 0x03c14383  # lbu x7, 60(x2)
-    .word 0x410002b3  # sub x5, x0, x16
-    .word 0x00734333  # xor x6, x6, x7
-    .word 0x00537333  # and x6, x6, x5
-    .word 0x0063c2b3  # xor x5, x7, x6
-    .word 0x02510e23  # sb x5, 60(x2)
-    .word 0x00359313  # slli x6, x11, 3
-    .word 0x01035313  # srli x6, x6, 16
-    .word 0x0ff37313  # andi x6, x6, 255
-    .word 0x03d14383  # lbu x7, 61(x2)
-    .word 0x410002b3  # sub x5, x0, x16
-    .word 0x00734333  # xor x6, x6, x7
-    .word 0x00537333  # and x6, x6, x5
-    .word 0x0063c2b3  # xor x5, x7, x6
-    .word 0x02510ea3  # sb x5, 61(x2)
-    .word 0x00359313  # slli x6, x11, 3
-    .word 0x00835313  # srli x6, x6, 8
-    .word 0x0ff37313  # andi x6, x6, 255
-    .word 0x03e14383  # lbu x7, 62(x2)
-    .word 0x410002b3  # sub x5, x0, x16
-    .word 0x00734333  # xor x6, x6, x7
-    .word 0x00537333  # and x6, x6, x5
-    .word 0x0063c2b3  # xor x5, x7, x6
-    .word 0x02510f23  # sb x5, 62(x2)
-    .word 0x00359313  # slli x6, x11, 3
-    .word 0x0ff37313  # andi x6, x6, 255
-    .word 0x03f14383  # lbu x7, 63(x2)
-    .word 0x410002b3  # sub x5, x0, x16
-    .word 0x00734333  # xor x6, x6, x7
-    .word 0x00537333  # and x6, x6, x5
-    .word 0x0063c2b3  # xor x5, x7, x6
-    .word 0x02510fa3  # sb x5, 63(x2)
-    .word 0x05012423  # sw x16, 72(x2)
+    .word 0x00000993  # addi x19, x0, 0
+    .word 0x03c98293  # addi x5, x19, 60
+    .word 0x00361393  # slli x7, x12, 3
+    .word 0x01800413  # addi x8, x0, 24
+    .word 0x00399493  # slli x9, x19, 3
+    .word 0x40940433  # sub x8, x8, x9
+    .word 0x0083d3b3  # srl x7, x7, x8
+    .word 0x0ff3f393  # andi x7, x7, 255
+    .word 0x03c98413  # addi x8, x19, 60
+    .word 0x00240433  # add x8, x8, x2
+    .word 0x00044403  # lbu x8, 0(x8)
+    .word 0x41200333  # sub x6, x0, x18
+    .word 0x0083c3b3  # xor x7, x7, x8
+    .word 0x0063f3b3  # and x7, x7, x6
+    .word 0x00744333  # xor x6, x8, x7
+    .word 0x002282b3  # add x5, x5, x2
+    .word 0x00628023  # sb x6, 0(x5)
+    .word 0x00198993  # addi x19, x19, 1
+    .word 0x0049b293  # sltiu x5, x19, 4
+    .word 0xfa029ce3  # bne x5, x0, -72
+    .word 0xfff98993  # addi x19, x19, -1
+    .word 0x05212423  # sw x18, 72(x2)
     # the result
     .word 0x04812503  # lw x10, 72(x2)
     # parameter 0: the array, back
-    .word 0x06c12283  # lw x5, 108(x2)
-    .word 0x00010313  # addi x6, x2, 0
-    .word 0x0032fe13  # andi x28, x5, 3
-    .word 0x020e0263  # beq x28, x0, 36
-    .word 0x04000393  # addi x7, x0, 64
-    .word 0x005383b3  # add x7, x7, x5
-    .word 0x00034e03  # lbu x28, 0(x6)
-    .word 0x01c28023  # sb x28, 0(x5)
-    .word 0x00128293  # addi x5, x5, 1
-    .word 0x00130313  # addi x6, x6, 1
-    .word 0xfe7298e3  # bne x5, x7, -16
-    .word 0x0380006f  # jal x0, 56
-    .word 0x04000393  # addi x7, x0, 64
-    .word 0x005383b3  # add x7, x7, x5
-    .word 0x00032e03  # lw x28, 0(x6)
-    .word 0x01c2a023  # sw x28, 0(x5)
-    .word 0x00432e03  # lw x28, 4(x6)
-    .word 0x01c2a223  # sw x28, 4(x5)
-    .word 0x00832e03  # lw x28, 8(x6)
-    .word 0x01c2a423  # sw x28, 8(x5)
-    .word 0x00c32e03  # lw x28, 12(x6)
-    .word 0x01c2a623  # sw x28, 12(x5)
-    .word 0x01028293  # addi x5, x5, 16
-    .word 0x01030313  # addi x6, x6, 16
-    .word 0xfc729ce3  # bne x5, x7, -40
+    .word 0x00010293  # addi x5, x2, 0
+    .word 0x07c12303  # lw x6, 124(x2)
+    .word 0x04028393  # addi x7, x5, 64
+    .word 0x07400f6f  # jal x30, 116
     # above the frame
     .word 0x06010293  # addi x5, x2, 96
     # the caller's registers
@@ -209,8 +127,12 @@ sha_pad_block:
     .cfi_restore 9
     .word 0x0082a903  # lw x18, 8(x5)
     .cfi_restore 18
+    .word 0x00c2a983  # lw x19, 12(x5)
+    .cfi_restore 19
+    .word 0x0102aa03  # lw x20, 16(x5)
+    .cfi_restore 20
     # the caller's x2
-    .word 0x01028293  # addi x5, x5, 16
+    .word 0x02028293  # addi x5, x5, 32
     .cfi_def_cfa 5, 0
     # all the room, wiped upward
     .word 0x00012023  # sw x0, 0(x2)
@@ -218,16 +140,7 @@ sha_pad_block:
     .word 0x00012423  # sw x0, 8(x2)
     .word 0x00012623  # sw x0, 12(x2)
     .word 0x01010113  # addi x2, x2, 16
-    .word 0x00012023  # sw x0, 0(x2)
-    .word 0x00012223  # sw x0, 4(x2)
-    .word 0x00012423  # sw x0, 8(x2)
-    .word 0x00012623  # sw x0, 12(x2)
-    .word 0x00012823  # sw x0, 16(x2)
-    .word 0x00012a23  # sw x0, 20(x2)
-    .word 0x00012c23  # sw x0, 24(x2)
-    .word 0x00012e23  # sw x0, 28(x2)
-    .word 0x02010113  # addi x2, x2, 32
-    .word 0xfc511ee3  # bne x2, x5, -36
+    .word 0xfe5116e3  # bne x2, x5, -20
     .cfi_def_cfa 2, 0
     # temporaries, wiped
     .word 0x00000293  # addi x5, x0, 0
@@ -246,6 +159,34 @@ sha_pad_block:
     .word 0x00000f93  # addi x31, x0, 0
     # back
     .word 0x00008067  # jalr x0, 0(x1)
+    # from x5 to x6 up to x7, and back
+    .cfi_def_cfa 2, 128
+    .cfi_offset 8, -32
+    .cfi_offset 9, -28
+    .cfi_offset 18, -24
+    .cfi_offset 19, -20
+    .cfi_offset 20, -16
+    .word 0x0062ee33  # or x28, x5, x6
+    .word 0x003e7e13  # andi x28, x28, 3
+    .word 0x000e0e63  # beq x28, x0, 28
+    .word 0x0002ce03  # lbu x28, 0(x5)
+    .word 0x01c30023  # sb x28, 0(x6)
+    .word 0x00128293  # addi x5, x5, 1
+    .word 0x00130313  # addi x6, x6, 1
+    .word 0xfe7298e3  # bne x5, x7, -16
+    .word 0x0300006f  # jal x0, 48
+    .word 0x0002ae03  # lw x28, 0(x5)
+    .word 0x01c32023  # sw x28, 0(x6)
+    .word 0x0042ae03  # lw x28, 4(x5)
+    .word 0x01c32223  # sw x28, 4(x6)
+    .word 0x0082ae03  # lw x28, 8(x5)
+    .word 0x01c32423  # sw x28, 8(x6)
+    .word 0x00c2ae03  # lw x28, 12(x5)
+    .word 0x01c32623  # sw x28, 12(x6)
+    .word 0x01028293  # addi x5, x5, 16
+    .word 0x01030313  # addi x6, x6, 16
+    .word 0xfc729ce3  # bne x5, x7, -40
+    .word 0x000f0067  # jalr x0, 0(x30)
     .cfi_endproc
     .size sha_pad_block, . - sha_pad_block
     .option pop

@@ -1,4 +1,4 @@
-# shift_left_64: made by factc 1.0.0 function; 67 words, 32 bytes of stack, profile 1
+# shift_left_64: made by factc 1.0.0 function; 63 words, 32 bytes of stack, profile 1
     .option push
     .option norvc
     .option norelax
@@ -54,12 +54,12 @@ shift_left_64:
     # the result
     .word 0x00000513  # addi x10, x0, 0
     # parameter 0: the array, back
-    .word 0x01c12283  # lw x5, 28(x2)
-    .word 0x00010313  # addi x6, x2, 0
-    .word 0x00032e03  # lw x28, 0(x6)
-    .word 0x01c2a023  # sw x28, 0(x5)
-    .word 0x00432e03  # lw x28, 4(x6)
-    .word 0x01c2a223  # sw x28, 4(x5)
+    .word 0x00010293  # addi x5, x2, 0
+    .word 0x01c12303  # lw x6, 28(x2)
+    .word 0x0002ae03  # lw x28, 0(x5)
+    .word 0x01c32023  # sw x28, 0(x6)
+    .word 0x0042ae03  # lw x28, 4(x5)
+    .word 0x01c32223  # sw x28, 4(x6)
     # above the frame
     .word 0x01010293  # addi x5, x2, 16
     # the caller's registers
@@ -71,12 +71,8 @@ shift_left_64:
     .word 0x00012223  # sw x0, 4(x2)
     .word 0x00012423  # sw x0, 8(x2)
     .word 0x00012623  # sw x0, 12(x2)
-    .word 0x00012823  # sw x0, 16(x2)
-    .word 0x00012a23  # sw x0, 20(x2)
-    .word 0x00012c23  # sw x0, 24(x2)
-    .word 0x00012e23  # sw x0, 28(x2)
-    .word 0x02010113  # addi x2, x2, 32
-    .word 0xfc511ee3  # bne x2, x5, -36
+    .word 0x01010113  # addi x2, x2, 16
+    .word 0xfe5116e3  # bne x2, x5, -20
     .cfi_def_cfa 2, 0
     # temporaries, wiped
     .word 0x00000293  # addi x5, x0, 0

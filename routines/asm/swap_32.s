@@ -1,4 +1,4 @@
-# swap_32: made by factc 1.0.0 function; 203 words, 112 bytes of stack, profile 1
+# swap_32: made by factc 1.0.0 function; 110 words, 96 bytes of stack, profile 1
     .option push
     .option norvc
     .option norelax
@@ -10,198 +10,89 @@
 swap_32:
     .cfi_startproc
     # room above the frame
-    .word 0xfe010113  # addi x2, x2, -32
-    .cfi_def_cfa_offset 32
+    .word 0xff010113  # addi x2, x2, -16
+    .cfi_def_cfa_offset 16
     # the caller's registers
-    .word 0x00812023  # sw x8, 0(x2)
-    .cfi_offset 8, -32
-    .word 0x00912223  # sw x9, 4(x2)
-    .cfi_offset 9, -28
     # arguments that are needed behind the body
-    .word 0x00a12a23  # sw x10, 20(x2)
-    .word 0x00b12c23  # sw x11, 24(x2)
-    .word 0x00c12e23  # sw x12, 28(x2)
+    .word 0x00a12223  # sw x10, 4(x2)
+    .word 0x00b12423  # sw x11, 8(x2)
+    .word 0x00c12623  # sw x12, 12(x2)
     # the frame's base
     .word 0xfb010113  # addi x2, x2, -80
-    .cfi_def_cfa 2, 112
+    .cfi_def_cfa 2, 96
     # parameter 0: a word
     .word 0x00a03533  # sltu x10, x0, x10
     .word 0x00a12023  # sw x10, 0(x2)
     # parameter 1: an array
     .word 0x00058293  # addi x5, x11, 0
     .word 0x00410313  # addi x6, x2, 4
-    .word 0x0032fe13  # andi x28, x5, 3
-    .word 0x020e0263  # beq x28, x0, 36
-    .word 0x02000393  # addi x7, x0, 32
-    .word 0x005383b3  # add x7, x7, x5
-    .word 0x0002ce03  # lbu x28, 0(x5)
-    .word 0x01c30023  # sb x28, 0(x6)
-    .word 0x00128293  # addi x5, x5, 1
-    .word 0x00130313  # addi x6, x6, 1
-    .word 0xfe7298e3  # bne x5, x7, -16
-    .word 0x0440006f  # jal x0, 68
-    .word 0x0002ae03  # lw x28, 0(x5)
-    .word 0x01c32023  # sw x28, 0(x6)
-    .word 0x0042ae03  # lw x28, 4(x5)
-    .word 0x01c32223  # sw x28, 4(x6)
-    .word 0x0082ae03  # lw x28, 8(x5)
-    .word 0x01c32423  # sw x28, 8(x6)
-    .word 0x00c2ae03  # lw x28, 12(x5)
-    .word 0x01c32623  # sw x28, 12(x6)
-    .word 0x0102ae03  # lw x28, 16(x5)
-    .word 0x01c32823  # sw x28, 16(x6)
-    .word 0x0142ae03  # lw x28, 20(x5)
-    .word 0x01c32a23  # sw x28, 20(x6)
-    .word 0x0182ae03  # lw x28, 24(x5)
-    .word 0x01c32c23  # sw x28, 24(x6)
-    .word 0x01c2ae03  # lw x28, 28(x5)
-    .word 0x01c32e23  # sw x28, 28(x6)
+    .word 0x02028393  # addi x7, x5, 32
+    .word 0x13c00f6f  # jal x30, 316
     # parameter 2: an array
     .word 0x00060293  # addi x5, x12, 0
     .word 0x02410313  # addi x6, x2, 36
-    .word 0x0032fe13  # andi x28, x5, 3
-    .word 0x020e0263  # beq x28, x0, 36
-    .word 0x02000393  # addi x7, x0, 32
-    .word 0x005383b3  # add x7, x7, x5
-    .word 0x0002ce03  # lbu x28, 0(x5)
-    .word 0x01c30023  # sb x28, 0(x6)
-    .word 0x00128293  # addi x5, x5, 1
-    .word 0x00130313  # addi x6, x6, 1
-    .word 0xfe7298e3  # bne x5, x7, -16
-    .word 0x0440006f  # jal x0, 68
-    .word 0x0002ae03  # lw x28, 0(x5)
-    .word 0x01c32023  # sw x28, 0(x6)
-    .word 0x0042ae03  # lw x28, 4(x5)
-    .word 0x01c32223  # sw x28, 4(x6)
-    .word 0x0082ae03  # lw x28, 8(x5)
-    .word 0x01c32423  # sw x28, 8(x6)
-    .word 0x00c2ae03  # lw x28, 12(x5)
-    .word 0x01c32623  # sw x28, 12(x6)
-    .word 0x0102ae03  # lw x28, 16(x5)
-    .word 0x01c32823  # sw x28, 16(x6)
-    .word 0x0142ae03  # lw x28, 20(x5)
-    .word 0x01c32a23  # sw x28, 20(x6)
-    .word 0x0182ae03  # lw x28, 24(x5)
-    .word 0x01c32c23  # sw x28, 24(x6)
-    .word 0x01c2ae03  # lw x28, 28(x5)
-    .word 0x01c32e23  # sw x28, 28(x6)
+    .word 0x02028393  # addi x7, x5, 32
+    .word 0x12c00f6f  # jal x30, 300
     # the body
-    .word 0x00012403  # lw x8, 0(x2)
-    .word 0x00000513  # addi x10, x0, 0
-    .word 0x00000593  # addi x11, x0, 0
+    .word 0x00012503  # lw x10, 0(x2)
     .word 0x00000613  # addi x12, x0, 0
-    .word 0x00000693  # addi x13, x0, 0
-    .word 0x00000713  # addi x14, x0, 0
-    .word 0x002707b3  # add x15, x14, x2
-    .word 0x408004b3  # sub x9, x0, x8
-    .word 0x00000513  # addi x10, x0, 0
-    .word 0x00251713  # slli x14, x10, 2
-    .word 0x002707b3  # add x15, x14, x2
-    .word 0x0047c583  # lbu x11, 4(x15)
-    .word 0x0247c603  # lbu x12, 36(x15)
-    .word 0x00c5c2b3  # xor x5, x11, x12
-    .word 0x0092f6b3  # and x13, x5, x9
-    .word 0x00d5c2b3  # xor x5, x11, x13
-    .word 0x00578223  # sb x5, 4(x15)
-    .word 0x00d642b3  # xor x5, x12, x13
-    .word 0x02578223  # sb x5, 36(x15)
-    .word 0x0057c583  # lbu x11, 5(x15)
-    .word 0x0257c603  # lbu x12, 37(x15)
-    .word 0x00c5c2b3  # xor x5, x11, x12
-    .word 0x0092f6b3  # and x13, x5, x9
-    .word 0x00d5c2b3  # xor x5, x11, x13
-    .word 0x005782a3  # sb x5, 5(x15)
-    .word 0x00d642b3  # xor x5, x12, x13
-    .word 0x025782a3  # sb x5, 37(x15)
-    .word 0x0067c583  # lbu x11, 6(x15)
-    .word 0x0267c603  # lbu x12, 38(x15)
-    .word 0x00c5c2b3  # xor x5, x11, x12
-    .word 0x0092f6b3  # and x13, x5, x9
-    .word 0x00d5c2b3  # xor x5, x11, x13
-    .word 0x00578323  # sb x5, 6(x15)
-    .word 0x00d642b3  # xor x5, x12, x13
-    .word 0x02578323  # sb x5, 38(x15)
-    .word 0x0077c583  # lbu x11, 7(x15)
-    .word 0x0277c603  # lbu x12, 39(x15)
-    .word 0x00c5c2b3  # xor x5, x11, x12
-    .word 0x0092f6b3  # and x13, x5, x9
-    .word 0x00d5c2b3  # xor x5, x11, x13
-    .word 0x005783a3  # sb x5, 7(x15)
-    .word 0x00d642b3  # xor x5, x12, x13
-    .word 0x025783a3  # sb x5, 39(x15)
-    .word 0x00150513  # addi x10, x10, 1
-    .word 0x00853293  # sltiu x5, x10, 8
+    .word 0x40a005b3  # sub x11, x0, x10
+    .word 0x00000613  # addi x12, x0, 0
+    .word 0x00261813  # slli x16, x12, 2
+    .word 0x002808b3  # add x17, x16, x2
+    .word 0x0048c683  # lbu x13, 4(x17)
+    .word 0x0248c703  # lbu x14, 36(x17)
+    .word 0x00e6c2b3  # xor x5, x13, x14
+    .word 0x00b2f7b3  # and x15, x5, x11
+    .word 0x00f6c2b3  # xor x5, x13, x15
+    .word 0x00588223  # sb x5, 4(x17)
+    .word 0x00f742b3  # xor x5, x14, x15
+    .word 0x02588223  # sb x5, 36(x17)
+    .word 0x0058c683  # lbu x13, 5(x17)
+    .word 0x0258c703  # lbu x14, 37(x17)
+    .word 0x00e6c2b3  # xor x5, x13, x14
+    .word 0x00b2f7b3  # and x15, x5, x11
+    .word 0x00f6c2b3  # xor x5, x13, x15
+    .word 0x005882a3  # sb x5, 5(x17)
+    .word 0x00f742b3  # xor x5, x14, x15
+    .word 0x025882a3  # sb x5, 37(x17)
+    .word 0x0068c683  # lbu x13, 6(x17)
+    .word 0x0268c703  # lbu x14, 38(x17)
+    .word 0x00e6c2b3  # xor x5, x13, x14
+    .word 0x00b2f7b3  # and x15, x5, x11
+    .word 0x00f6c2b3  # xor x5, x13, x15
+    .word 0x00588323  # sb x5, 6(x17)
+    .word 0x00f742b3  # xor x5, x14, x15
+    .word 0x02588323  # sb x5, 38(x17)
+    .word 0x0078c683  # lbu x13, 7(x17)
+    .word 0x0278c703  # lbu x14, 39(x17)
+    .word 0x00e6c2b3  # xor x5, x13, x14
+    .word 0x00b2f7b3  # and x15, x5, x11
+    .word 0x00f6c2b3  # xor x5, x13, x15
+    .word 0x005883a3  # sb x5, 7(x17)
+    .word 0x00f742b3  # xor x5, x14, x15
+    .word 0x025883a3  # sb x5, 39(x17)
+    .word 0x00160613  # addi x12, x12, 1
+    .word 0x00863293  # sltiu x5, x12, 8
     .word 0xf60298e3  # bne x5, x0, -144
-    .word 0xfff50513  # addi x10, x10, -1
+    .word 0xfff60613  # addi x12, x12, -1
     # the result
     .word 0x00000513  # addi x10, x0, 0
     # parameter 1: the array, back
-    .word 0x06812283  # lw x5, 104(x2)
-    .word 0x00410313  # addi x6, x2, 4
-    .word 0x0032fe13  # andi x28, x5, 3
-    .word 0x020e0263  # beq x28, x0, 36
-    .word 0x02000393  # addi x7, x0, 32
-    .word 0x005383b3  # add x7, x7, x5
-    .word 0x00034e03  # lbu x28, 0(x6)
-    .word 0x01c28023  # sb x28, 0(x5)
-    .word 0x00128293  # addi x5, x5, 1
-    .word 0x00130313  # addi x6, x6, 1
-    .word 0xfe7298e3  # bne x5, x7, -16
-    .word 0x0440006f  # jal x0, 68
-    .word 0x00032e03  # lw x28, 0(x6)
-    .word 0x01c2a023  # sw x28, 0(x5)
-    .word 0x00432e03  # lw x28, 4(x6)
-    .word 0x01c2a223  # sw x28, 4(x5)
-    .word 0x00832e03  # lw x28, 8(x6)
-    .word 0x01c2a423  # sw x28, 8(x5)
-    .word 0x00c32e03  # lw x28, 12(x6)
-    .word 0x01c2a623  # sw x28, 12(x5)
-    .word 0x01032e03  # lw x28, 16(x6)
-    .word 0x01c2a823  # sw x28, 16(x5)
-    .word 0x01432e03  # lw x28, 20(x6)
-    .word 0x01c2aa23  # sw x28, 20(x5)
-    .word 0x01832e03  # lw x28, 24(x6)
-    .word 0x01c2ac23  # sw x28, 24(x5)
-    .word 0x01c32e03  # lw x28, 28(x6)
-    .word 0x01c2ae23  # sw x28, 28(x5)
+    .word 0x00410293  # addi x5, x2, 4
+    .word 0x05812303  # lw x6, 88(x2)
+    .word 0x02028393  # addi x7, x5, 32
+    .word 0x07000f6f  # jal x30, 112
     # parameter 2: the array, back
-    .word 0x06c12283  # lw x5, 108(x2)
-    .word 0x02410313  # addi x6, x2, 36
-    .word 0x0032fe13  # andi x28, x5, 3
-    .word 0x020e0263  # beq x28, x0, 36
-    .word 0x02000393  # addi x7, x0, 32
-    .word 0x005383b3  # add x7, x7, x5
-    .word 0x00034e03  # lbu x28, 0(x6)
-    .word 0x01c28023  # sb x28, 0(x5)
-    .word 0x00128293  # addi x5, x5, 1
-    .word 0x00130313  # addi x6, x6, 1
-    .word 0xfe7298e3  # bne x5, x7, -16
-    .word 0x0440006f  # jal x0, 68
-    .word 0x00032e03  # lw x28, 0(x6)
-    .word 0x01c2a023  # sw x28, 0(x5)
-    .word 0x00432e03  # lw x28, 4(x6)
-    .word 0x01c2a223  # sw x28, 4(x5)
-    .word 0x00832e03  # lw x28, 8(x6)
-    .word 0x01c2a423  # sw x28, 8(x5)
-    .word 0x00c32e03  # lw x28, 12(x6)
-    .word 0x01c2a623  # sw x28, 12(x5)
-    .word 0x01032e03  # lw x28, 16(x6)
-    .word 0x01c2a823  # sw x28, 16(x5)
-    .word 0x01432e03  # lw x28, 20(x6)
-    .word 0x01c2aa23  # sw x28, 20(x5)
-    .word 0x01832e03  # lw x28, 24(x6)
-    .word 0x01c2ac23  # sw x28, 24(x5)
-    .word 0x01c32e03  # lw x28, 28(x6)
-    .word 0x01c2ae23  # sw x28, 28(x5)
+    .word 0x02410293  # addi x5, x2, 36
+    .word 0x05c12303  # lw x6, 92(x2)
+    .word 0x02028393  # addi x7, x5, 32
+    .word 0x06000f6f  # jal x30, 96
     # above the frame
     .word 0x05010293  # addi x5, x2, 80
     # the caller's registers
-    .word 0x0002a403  # lw x8, 0(x5)
-    .cfi_restore 8
-    .word 0x0042a483  # lw x9, 4(x5)
-    .cfi_restore 9
     # the caller's x2
-    .word 0x02028293  # addi x5, x5, 32
+    .word 0x01028293  # addi x5, x5, 16
     .cfi_def_cfa 5, 0
     # all the room, wiped upward
     .word 0x00012023  # sw x0, 0(x2)
@@ -209,16 +100,7 @@ swap_32:
     .word 0x00012423  # sw x0, 8(x2)
     .word 0x00012623  # sw x0, 12(x2)
     .word 0x01010113  # addi x2, x2, 16
-    .word 0x00012023  # sw x0, 0(x2)
-    .word 0x00012223  # sw x0, 4(x2)
-    .word 0x00012423  # sw x0, 8(x2)
-    .word 0x00012623  # sw x0, 12(x2)
-    .word 0x00012823  # sw x0, 16(x2)
-    .word 0x00012a23  # sw x0, 20(x2)
-    .word 0x00012c23  # sw x0, 24(x2)
-    .word 0x00012e23  # sw x0, 28(x2)
-    .word 0x02010113  # addi x2, x2, 32
-    .word 0xfc511ee3  # bne x2, x5, -36
+    .word 0xfe5116e3  # bne x2, x5, -20
     .cfi_def_cfa 2, 0
     # temporaries, wiped
     .word 0x00000293  # addi x5, x0, 0
@@ -237,6 +119,29 @@ swap_32:
     .word 0x00000f93  # addi x31, x0, 0
     # back
     .word 0x00008067  # jalr x0, 0(x1)
+    # from x5 to x6 up to x7, and back
+    .cfi_def_cfa 2, 96
+    .word 0x0062ee33  # or x28, x5, x6
+    .word 0x003e7e13  # andi x28, x28, 3
+    .word 0x000e0e63  # beq x28, x0, 28
+    .word 0x0002ce03  # lbu x28, 0(x5)
+    .word 0x01c30023  # sb x28, 0(x6)
+    .word 0x00128293  # addi x5, x5, 1
+    .word 0x00130313  # addi x6, x6, 1
+    .word 0xfe7298e3  # bne x5, x7, -16
+    .word 0x0300006f  # jal x0, 48
+    .word 0x0002ae03  # lw x28, 0(x5)
+    .word 0x01c32023  # sw x28, 0(x6)
+    .word 0x0042ae03  # lw x28, 4(x5)
+    .word 0x01c32223  # sw x28, 4(x6)
+    .word 0x0082ae03  # lw x28, 8(x5)
+    .word 0x01c32423  # sw x28, 8(x6)
+    .word 0x00c2ae03  # lw x28, 12(x5)
+    .word 0x01c32623  # sw x28, 12(x6)
+    .word 0x01028293  # addi x5, x5, 16
+    .word 0x01030313  # addi x6, x6, 16
+    .word 0xfc729ce3  # bne x5, x7, -40
+    .word 0x000f0067  # jalr x0, 0(x30)
     .cfi_endproc
     .size swap_32, . - swap_32
     .option pop

@@ -1,4 +1,4 @@
-# x25519: made by factc 1.0.0 function; 1962 words, 1504 bytes of stack, profile 1
+# x25519: made by factc 1.0.0 function; 1981 words, 1504 bytes of stack, profile 1
     .option push
     .option norvc
     .option norelax
@@ -46,94 +46,25 @@ x25519:
     .word 0x405102b3  # sub x5, x2, x5
     .cfi_def_cfa 5, 1504
     # the frame, zeroed downward
-    .word 0xfe010113  # addi x2, x2, -32
+    .word 0xff010113  # addi x2, x2, -16
     .word 0x00012023  # sw x0, 0(x2)
     .word 0x00012223  # sw x0, 4(x2)
     .word 0x00012423  # sw x0, 8(x2)
     .word 0x00012623  # sw x0, 12(x2)
-    .word 0x00012823  # sw x0, 16(x2)
-    .word 0x00012a23  # sw x0, 20(x2)
-    .word 0x00012c23  # sw x0, 24(x2)
-    .word 0x00012e23  # sw x0, 28(x2)
-    .word 0xfc511ee3  # bne x2, x5, -36
+    .word 0xfe5116e3  # bne x2, x5, -20
     .cfi_def_cfa 2, 1504
     # parameter 0: an array
     .word 0x00050293  # addi x5, x10, 0
     .word 0x00010313  # addi x6, x2, 0
-    .word 0x0032fe13  # andi x28, x5, 3
-    .word 0x020e0263  # beq x28, x0, 36
-    .word 0x02000393  # addi x7, x0, 32
-    .word 0x005383b3  # add x7, x7, x5
-    .word 0x0002ce03  # lbu x28, 0(x5)
-    .word 0x01c30023  # sb x28, 0(x6)
-    .word 0x00128293  # addi x5, x5, 1
-    .word 0x00130313  # addi x6, x6, 1
-    .word 0xfe7298e3  # bne x5, x7, -16
-    .word 0x0440006f  # jal x0, 68
-    .word 0x0002ae03  # lw x28, 0(x5)
-    .word 0x01c32023  # sw x28, 0(x6)
-    .word 0x0042ae03  # lw x28, 4(x5)
-    .word 0x01c32223  # sw x28, 4(x6)
-    .word 0x0082ae03  # lw x28, 8(x5)
-    .word 0x01c32423  # sw x28, 8(x6)
-    .word 0x00c2ae03  # lw x28, 12(x5)
-    .word 0x01c32623  # sw x28, 12(x6)
-    .word 0x0102ae03  # lw x28, 16(x5)
-    .word 0x01c32823  # sw x28, 16(x6)
-    .word 0x0142ae03  # lw x28, 20(x5)
-    .word 0x01c32a23  # sw x28, 20(x6)
-    .word 0x0182ae03  # lw x28, 24(x5)
-    .word 0x01c32c23  # sw x28, 24(x6)
-    .word 0x01c2ae03  # lw x28, 28(x5)
-    .word 0x01c32e23  # sw x28, 28(x6)
+    .word 0x02028393  # addi x7, x5, 32
+    .word 0x63501f6f  # jal x30, 7732
     # parameter 1: an array
     .word 0x00058293  # addi x5, x11, 0
     .word 0x02010313  # addi x6, x2, 32
-    .word 0x0032fe13  # andi x28, x5, 3
-    .word 0x020e0263  # beq x28, x0, 36
-    .word 0x02000393  # addi x7, x0, 32
-    .word 0x005383b3  # add x7, x7, x5
-    .word 0x0002ce03  # lbu x28, 0(x5)
-    .word 0x01c30023  # sb x28, 0(x6)
-    .word 0x00128293  # addi x5, x5, 1
-    .word 0x00130313  # addi x6, x6, 1
-    .word 0xfe7298e3  # bne x5, x7, -16
-    .word 0x0440006f  # jal x0, 68
-    .word 0x0002ae03  # lw x28, 0(x5)
-    .word 0x01c32023  # sw x28, 0(x6)
-    .word 0x0042ae03  # lw x28, 4(x5)
-    .word 0x01c32223  # sw x28, 4(x6)
-    .word 0x0082ae03  # lw x28, 8(x5)
-    .word 0x01c32423  # sw x28, 8(x6)
-    .word 0x00c2ae03  # lw x28, 12(x5)
-    .word 0x01c32623  # sw x28, 12(x6)
-    .word 0x0102ae03  # lw x28, 16(x5)
-    .word 0x01c32823  # sw x28, 16(x6)
-    .word 0x0142ae03  # lw x28, 20(x5)
-    .word 0x01c32a23  # sw x28, 20(x6)
-    .word 0x0182ae03  # lw x28, 24(x5)
-    .word 0x01c32c23  # sw x28, 24(x6)
-    .word 0x01c2ae03  # lw x28, 28(x5)
-    .word 0x01c32e23  # sw x28, 28(x6)
+    .word 0x02028393  # addi x7, x5, 32
+    .word 0x62501f6f  # jal x30, 7716
     # the body
-    .word 0x00000513  # addi x10, x0, 0
     .word 0x00000593  # addi x11, x0, 0
-    .word 0x00000613  # addi x12, x0, 0
-    .word 0x00000693  # addi x13, x0, 0
-    .word 0x00000713  # addi x14, x0, 0
-    .word 0x00000793  # addi x15, x0, 0
-    .word 0x00000813  # addi x16, x0, 0
-    .word 0x00000893  # addi x17, x0, 0
-    .word 0x00000913  # addi x18, x0, 0
-    .word 0x00000993  # addi x19, x0, 0
-    .word 0x00000a13  # addi x20, x0, 0
-    .word 0x00000a93  # addi x21, x0, 0
-    .word 0x00000b13  # addi x22, x0, 0
-    .word 0x00000b93  # addi x23, x0, 0
-    .word 0x00000c13  # addi x24, x0, 0
-    .word 0x00000c93  # addi x25, x0, 0
-    .word 0x00251d13  # slli x26, x10, 2
-    .word 0x002d0d33  # add x26, x26, x2
     .word 0x00259d93  # slli x27, x11, 2
     .word 0x002d8db3  # add x27, x27, x2
     .word 0x800002b7  # lui x5, 0x80000
@@ -1847,116 +1778,187 @@ x25519:
     .word 0x08012283  # lw x5, 128(x2)
     .word 0x00c28733  # add x14, x5, x12
     .word 0x00c73633  # sltu x12, x14, x12
-    .word 0x04e10023  # sb x14, 64(x2)
-    .word 0x00875293  # srli x5, x14, 8
-    .word 0x045100a3  # sb x5, 65(x2)
-    .word 0x01075293  # srli x5, x14, 16
-    .word 0x04510123  # sb x5, 66(x2)
-    .word 0x01875293  # srli x5, x14, 24
-    .word 0x045101a3  # sb x5, 67(x2)
+    .word 0x58012023  # sw x0, 1408(x2)
+    .word 0x00400293  # addi x5, x0, 4
+    .word 0x58512223  # sw x5, 1412(x2)
+    .word 0x58012303  # lw x6, 1408(x2)
+    .word 0x58412283  # lw x5, 1412(x2)
+    .word 0x005332b3  # sltu x5, x6, x5
+    .word 0x00029463  # bne x5, x0, 8
+    .word 0x02c0006f  # jal x0, 44
+    .word 0x4e612223  # sw x6, 1252(x2)
+    .word 0x00130313  # addi x6, x6, 1
+    .word 0x58612023  # sw x6, 1408(x2)
+    .word 0x4e412283  # lw x5, 1252(x2)
+    .word 0x4e412383  # lw x7, 1252(x2)
+    .word 0x00339393  # slli x7, x7, 3
+    .word 0x00775333  # srl x6, x14, x7
+    .word 0x002282b3  # add x5, x5, x2
+    .word 0x04628023  # sb x6, 64(x5)
+    .word 0xfc9ff06f  # jal x0, -56
     .word 0x08412283  # lw x5, 132(x2)
     .word 0x00c28733  # add x14, x5, x12
     .word 0x00c73633  # sltu x12, x14, x12
-    .word 0x04e10223  # sb x14, 68(x2)
-    .word 0x00875293  # srli x5, x14, 8
-    .word 0x045102a3  # sb x5, 69(x2)
-    .word 0x01075293  # srli x5, x14, 16
-    .word 0x04510323  # sb x5, 70(x2)
-    .word 0x01875293  # srli x5, x14, 24
-    .word 0x045103a3  # sb x5, 71(x2)
+    .word 0x58012023  # sw x0, 1408(x2)
+    .word 0x00400293  # addi x5, x0, 4
+    .word 0x58512223  # sw x5, 1412(x2)
+    .word 0x58012303  # lw x6, 1408(x2)
+    .word 0x58412283  # lw x5, 1412(x2)
+    .word 0x005332b3  # sltu x5, x6, x5
+    .word 0x00029463  # bne x5, x0, 8
+    .word 0x0300006f  # jal x0, 48
+    .word 0x4e612223  # sw x6, 1252(x2)
+    .word 0x00130313  # addi x6, x6, 1
+    .word 0x58612023  # sw x6, 1408(x2)
+    .word 0x4e412283  # lw x5, 1252(x2)
+    .word 0x00428293  # addi x5, x5, 4
+    .word 0x4e412383  # lw x7, 1252(x2)
+    .word 0x00339393  # slli x7, x7, 3
+    .word 0x00775333  # srl x6, x14, x7
+    .word 0x002282b3  # add x5, x5, x2
+    .word 0x04628023  # sb x6, 64(x5)
+    .word 0xfc5ff06f  # jal x0, -60
     .word 0x08812283  # lw x5, 136(x2)
     .word 0x00c28733  # add x14, x5, x12
     .word 0x00c73633  # sltu x12, x14, x12
-    .word 0x04e10423  # sb x14, 72(x2)
-    .word 0x00875293  # srli x5, x14, 8
-    .word 0x045104a3  # sb x5, 73(x2)
-    .word 0x01075293  # srli x5, x14, 16
-    .word 0x04510523  # sb x5, 74(x2)
-    .word 0x01875293  # srli x5, x14, 24
-    .word 0x045105a3  # sb x5, 75(x2)
+    .word 0x58012023  # sw x0, 1408(x2)
+    .word 0x00400293  # addi x5, x0, 4
+    .word 0x58512223  # sw x5, 1412(x2)
+    .word 0x58012303  # lw x6, 1408(x2)
+    .word 0x58412283  # lw x5, 1412(x2)
+    .word 0x005332b3  # sltu x5, x6, x5
+    .word 0x00029463  # bne x5, x0, 8
+    .word 0x0300006f  # jal x0, 48
+    .word 0x4e612223  # sw x6, 1252(x2)
+    .word 0x00130313  # addi x6, x6, 1
+    .word 0x58612023  # sw x6, 1408(x2)
+    .word 0x4e412283  # lw x5, 1252(x2)
+    .word 0x00828293  # addi x5, x5, 8
+    .word 0x4e412383  # lw x7, 1252(x2)
+    .word 0x00339393  # slli x7, x7, 3
+    .word 0x00775333  # srl x6, x14, x7
+    .word 0x002282b3  # add x5, x5, x2
+    .word 0x04628023  # sb x6, 64(x5)
+    .word 0xfc5ff06f  # jal x0, -60
     .word 0x08c12283  # lw x5, 140(x2)
     .word 0x00c28733  # add x14, x5, x12
     .word 0x00c73633  # sltu x12, x14, x12
-    .word 0x04e10623  # sb x14, 76(x2)
-    .word 0x00875293  # srli x5, x14, 8
-    .word 0x045106a3  # sb x5, 77(x2)
-    .word 0x01075293  # srli x5, x14, 16
-    .word 0x04510723  # sb x5, 78(x2)
-    .word 0x01875293  # srli x5, x14, 24
-    .word 0x045107a3  # sb x5, 79(x2)
+    .word 0x58012023  # sw x0, 1408(x2)
+    .word 0x00400293  # addi x5, x0, 4
+    .word 0x58512223  # sw x5, 1412(x2)
+    .word 0x58012303  # lw x6, 1408(x2)
+    .word 0x58412283  # lw x5, 1412(x2)
+    .word 0x005332b3  # sltu x5, x6, x5
+    .word 0x00029463  # bne x5, x0, 8
+    .word 0x0300006f  # jal x0, 48
+    .word 0x4e612223  # sw x6, 1252(x2)
+    .word 0x00130313  # addi x6, x6, 1
+    .word 0x58612023  # sw x6, 1408(x2)
+    .word 0x4e412283  # lw x5, 1252(x2)
+    .word 0x00c28293  # addi x5, x5, 12
+    .word 0x4e412383  # lw x7, 1252(x2)
+    .word 0x00339393  # slli x7, x7, 3
+    .word 0x00775333  # srl x6, x14, x7
+    .word 0x002282b3  # add x5, x5, x2
+    .word 0x04628023  # sb x6, 64(x5)
+    .word 0xfc5ff06f  # jal x0, -60
     .word 0x09012283  # lw x5, 144(x2)
     .word 0x00c28733  # add x14, x5, x12
     .word 0x00c73633  # sltu x12, x14, x12
-    .word 0x04e10823  # sb x14, 80(x2)
-    .word 0x00875293  # srli x5, x14, 8
-    .word 0x045108a3  # sb x5, 81(x2)
-    .word 0x01075293  # srli x5, x14, 16
-    .word 0x04510923  # sb x5, 82(x2)
-    .word 0x01875293  # srli x5, x14, 24
-    .word 0x045109a3  # sb x5, 83(x2)
+    .word 0x58012023  # sw x0, 1408(x2)
+    .word 0x00400293  # addi x5, x0, 4
+    .word 0x58512223  # sw x5, 1412(x2)
+    .word 0x58012303  # lw x6, 1408(x2)
+    .word 0x58412283  # lw x5, 1412(x2)
+    .word 0x005332b3  # sltu x5, x6, x5
+    .word 0x00029463  # bne x5, x0, 8
+    .word 0x0300006f  # jal x0, 48
+    .word 0x4e612223  # sw x6, 1252(x2)
+    .word 0x00130313  # addi x6, x6, 1
+    .word 0x58612023  # sw x6, 1408(x2)
+    .word 0x4e412283  # lw x5, 1252(x2)
+    .word 0x01028293  # addi x5, x5, 16
+    .word 0x4e412383  # lw x7, 1252(x2)
+    .word 0x00339393  # slli x7, x7, 3
+    .word 0x00775333  # srl x6, x14, x7
+    .word 0x002282b3  # add x5, x5, x2
+    .word 0x04628023  # sb x6, 64(x5)
+    .word 0xfc5ff06f  # jal x0, -60
     .word 0x09412283  # lw x5, 148(x2)
     .word 0x00c28733  # add x14, x5, x12
     .word 0x00c73633  # sltu x12, x14, x12
-    .word 0x04e10a23  # sb x14, 84(x2)
-    .word 0x00875293  # srli x5, x14, 8
-    .word 0x04510aa3  # sb x5, 85(x2)
-    .word 0x01075293  # srli x5, x14, 16
-    .word 0x04510b23  # sb x5, 86(x2)
-    .word 0x01875293  # srli x5, x14, 24
-    .word 0x04510ba3  # sb x5, 87(x2)
+    .word 0x58012023  # sw x0, 1408(x2)
+    .word 0x00400293  # addi x5, x0, 4
+    .word 0x58512223  # sw x5, 1412(x2)
+    .word 0x58012303  # lw x6, 1408(x2)
+    .word 0x58412283  # lw x5, 1412(x2)
+    .word 0x005332b3  # sltu x5, x6, x5
+    .word 0x00029463  # bne x5, x0, 8
+    .word 0x0300006f  # jal x0, 48
+    .word 0x4e612223  # sw x6, 1252(x2)
+    .word 0x00130313  # addi x6, x6, 1
+    .word 0x58612023  # sw x6, 1408(x2)
+    .word 0x4e412283  # lw x5, 1252(x2)
+    .word 0x01428293  # addi x5, x5, 20
+    .word 0x4e412383  # lw x7, 1252(x2)
+    .word 0x00339393  # slli x7, x7, 3
+    .word 0x00775333  # srl x6, x14, x7
+    .word 0x002282b3  # add x5, x5, x2
+    .word 0x04628023  # sb x6, 64(x5)
+    .word 0xfc5ff06f  # jal x0, -60
     .word 0x09812283  # lw x5, 152(x2)
     .word 0x00c28733  # add x14, x5, x12
     .word 0x00c73633  # sltu x12, x14, x12
-    .word 0x04e10c23  # sb x14, 88(x2)
-    .word 0x00875293  # srli x5, x14, 8
-    .word 0x04510ca3  # sb x5, 89(x2)
-    .word 0x01075293  # srli x5, x14, 16
-    .word 0x04510d23  # sb x5, 90(x2)
-    .word 0x01875293  # srli x5, x14, 24
-    .word 0x04510da3  # sb x5, 91(x2)
+    .word 0x58012023  # sw x0, 1408(x2)
+    .word 0x00400293  # addi x5, x0, 4
+    .word 0x58512223  # sw x5, 1412(x2)
+    .word 0x58012303  # lw x6, 1408(x2)
+    .word 0x58412283  # lw x5, 1412(x2)
+    .word 0x005332b3  # sltu x5, x6, x5
+    .word 0x00029463  # bne x5, x0, 8
+    .word 0x0300006f  # jal x0, 48
+    .word 0x4e612223  # sw x6, 1252(x2)
+    .word 0x00130313  # addi x6, x6, 1
+    .word 0x58612023  # sw x6, 1408(x2)
+    .word 0x4e412283  # lw x5, 1252(x2)
+    .word 0x01828293  # addi x5, x5, 24
+    .word 0x4e412383  # lw x7, 1252(x2)
+    .word 0x00339393  # slli x7, x7, 3
+    .word 0x00775333  # srl x6, x14, x7
+    .word 0x002282b3  # add x5, x5, x2
+    .word 0x04628023  # sb x6, 64(x5)
+    .word 0xfc5ff06f  # jal x0, -60
     .word 0x09c12283  # lw x5, 156(x2)
     .word 0x00c28733  # add x14, x5, x12
-    .word 0x04e10e23  # sb x14, 92(x2)
-    .word 0x00875293  # srli x5, x14, 8
-    .word 0x04510ea3  # sb x5, 93(x2)
-    .word 0x01075293  # srli x5, x14, 16
-    .word 0x04510f23  # sb x5, 94(x2)
-    .word 0x01875293  # srli x5, x14, 24
-    .word 0x04510fa3  # sb x5, 95(x2)
+    .word 0x58012023  # sw x0, 1408(x2)
+    .word 0x00400293  # addi x5, x0, 4
+    .word 0x58512223  # sw x5, 1412(x2)
+    .word 0x58012303  # lw x6, 1408(x2)
+    .word 0x58412283  # lw x5, 1412(x2)
+    .word 0x005332b3  # sltu x5, x6, x5
+    .word 0x00029463  # bne x5, x0, 8
+    .word 0x0300006f  # jal x0, 48
+    .word 0x4e612223  # sw x6, 1252(x2)
+    .word 0x00130313  # addi x6, x6, 1
+    .word 0x58612023  # sw x6, 1408(x2)
+    .word 0x4e412283  # lw x5, 1252(x2)
+    .word 0x01c28293  # addi x5, x5, 28
+    .word 0x4e412383  # lw x7, 1252(x2)
+    .word 0x00339393  # slli x7, x7, 3
+    .word 0x00775333  # srl x6, x14, x7
+    .word 0x002282b3  # add x5, x5, x2
+    .word 0x04628023  # sb x6, 64(x5)
+    .word 0xfc5ff06f  # jal x0, -60
     .word 0x05f14283  # lbu x5, 95(x2)
     .word 0x07f2f293  # andi x5, x5, 127
     .word 0x04510fa3  # sb x5, 95(x2)
     # the result
     .word 0x00000513  # addi x10, x0, 0
     # parameter 2: the array, back
-    .word 0x5dc12283  # lw x5, 1500(x2)
-    .word 0x04010313  # addi x6, x2, 64
-    .word 0x0032fe13  # andi x28, x5, 3
-    .word 0x020e0263  # beq x28, x0, 36
-    .word 0x02000393  # addi x7, x0, 32
-    .word 0x005383b3  # add x7, x7, x5
-    .word 0x00034e03  # lbu x28, 0(x6)
-    .word 0x01c28023  # sb x28, 0(x5)
-    .word 0x00128293  # addi x5, x5, 1
-    .word 0x00130313  # addi x6, x6, 1
-    .word 0xfe7298e3  # bne x5, x7, -16
-    .word 0x0440006f  # jal x0, 68
-    .word 0x00032e03  # lw x28, 0(x6)
-    .word 0x01c2a023  # sw x28, 0(x5)
-    .word 0x00432e03  # lw x28, 4(x6)
-    .word 0x01c2a223  # sw x28, 4(x5)
-    .word 0x00832e03  # lw x28, 8(x6)
-    .word 0x01c2a423  # sw x28, 8(x5)
-    .word 0x00c32e03  # lw x28, 12(x6)
-    .word 0x01c2a623  # sw x28, 12(x5)
-    .word 0x01032e03  # lw x28, 16(x6)
-    .word 0x01c2a823  # sw x28, 16(x5)
-    .word 0x01432e03  # lw x28, 20(x6)
-    .word 0x01c2aa23  # sw x28, 20(x5)
-    .word 0x01832e03  # lw x28, 24(x6)
-    .word 0x01c2ac23  # sw x28, 24(x5)
-    .word 0x01c32e03  # lw x28, 28(x6)
-    .word 0x01c2ae23  # sw x28, 28(x5)
+    .word 0x04010293  # addi x5, x2, 64
+    .word 0x5dc12303  # lw x6, 1500(x2)
+    .word 0x02028393  # addi x7, x5, 32
+    .word 0x09000f6f  # jal x30, 144
     # above the frame
     .word 0x5a010293  # addi x5, x2, 1440
     # the caller's registers
@@ -1992,12 +1994,8 @@ x25519:
     .word 0x00012223  # sw x0, 4(x2)
     .word 0x00012423  # sw x0, 8(x2)
     .word 0x00012623  # sw x0, 12(x2)
-    .word 0x00012823  # sw x0, 16(x2)
-    .word 0x00012a23  # sw x0, 20(x2)
-    .word 0x00012c23  # sw x0, 24(x2)
-    .word 0x00012e23  # sw x0, 28(x2)
-    .word 0x02010113  # addi x2, x2, 32
-    .word 0xfc511ee3  # bne x2, x5, -36
+    .word 0x01010113  # addi x2, x2, 16
+    .word 0xfe5116e3  # bne x2, x5, -20
     .cfi_def_cfa 2, 0
     # temporaries, wiped
     .word 0x00000293  # addi x5, x0, 0
@@ -2016,6 +2014,41 @@ x25519:
     .word 0x00000f93  # addi x31, x0, 0
     # back
     .word 0x00008067  # jalr x0, 0(x1)
+    # from x5 to x6 up to x7, and back
+    .cfi_def_cfa 2, 1504
+    .cfi_offset 8, -64
+    .cfi_offset 9, -60
+    .cfi_offset 18, -56
+    .cfi_offset 19, -52
+    .cfi_offset 20, -48
+    .cfi_offset 21, -44
+    .cfi_offset 22, -40
+    .cfi_offset 23, -36
+    .cfi_offset 24, -32
+    .cfi_offset 25, -28
+    .cfi_offset 26, -24
+    .cfi_offset 27, -20
+    .word 0x0062ee33  # or x28, x5, x6
+    .word 0x003e7e13  # andi x28, x28, 3
+    .word 0x000e0e63  # beq x28, x0, 28
+    .word 0x0002ce03  # lbu x28, 0(x5)
+    .word 0x01c30023  # sb x28, 0(x6)
+    .word 0x00128293  # addi x5, x5, 1
+    .word 0x00130313  # addi x6, x6, 1
+    .word 0xfe7298e3  # bne x5, x7, -16
+    .word 0x0300006f  # jal x0, 48
+    .word 0x0002ae03  # lw x28, 0(x5)
+    .word 0x01c32023  # sw x28, 0(x6)
+    .word 0x0042ae03  # lw x28, 4(x5)
+    .word 0x01c32223  # sw x28, 4(x6)
+    .word 0x0082ae03  # lw x28, 8(x5)
+    .word 0x01c32423  # sw x28, 8(x6)
+    .word 0x00c2ae03  # lw x28, 12(x5)
+    .word 0x01c32623  # sw x28, 12(x6)
+    .word 0x01028293  # addi x5, x5, 16
+    .word 0x01030313  # addi x6, x6, 16
+    .word 0xfc729ce3  # bne x5, x7, -40
+    .word 0x000f0067  # jalr x0, 0(x30)
     .cfi_endproc
     .size x25519, . - x25519
     .option pop

@@ -1,4 +1,4 @@
-# xtea_encrypt: made by factc 1.0.0 function; 165 words, 64 bytes of stack, profile 1
+# xtea_encrypt: made by factc 1.0.0 function; 89 words, 64 bytes of stack, profile 1
     .option push
     .option norvc
     .option norelax
@@ -71,93 +71,21 @@ xtea_encrypt:
     .word 0x008603b3  # add x7, x12, x8
     .word 0x00734333  # xor x6, x6, x7
     .word 0x006585b3  # add x11, x11, x6
-    .word 0x00459313  # slli x6, x11, 4
-    .word 0x0055d393  # srli x7, x11, 5
-    .word 0x00734333  # xor x6, x6, x7
-    .word 0x00b30333  # add x6, x6, x11
-    .word 0x00367413  # andi x8, x12, 3
-    .word 0x00241413  # slli x8, x8, 2
-    .word 0x00240433  # add x8, x8, x2
-    .word 0x00042403  # lw x8, 0(x8)
-    .word 0x008603b3  # add x7, x12, x8
-    .word 0x00734333  # xor x6, x6, x7
-    .word 0x00650533  # add x10, x10, x6
-    .word 0x00e60633  # add x12, x12, x14
-    .word 0x00451313  # slli x6, x10, 4
-    .word 0x00555393  # srli x7, x10, 5
-    .word 0x00734333  # xor x6, x6, x7
-    .word 0x00a30333  # add x6, x6, x10
-    .word 0x00b65413  # srli x8, x12, 11
-    .word 0x00347413  # andi x8, x8, 3
-    .word 0x00241413  # slli x8, x8, 2
-    .word 0x00240433  # add x8, x8, x2
-    .word 0x00042403  # lw x8, 0(x8)
-    .word 0x008603b3  # add x7, x12, x8
-    .word 0x00734333  # xor x6, x6, x7
-    .word 0x006585b3  # add x11, x11, x6
-    .word 0x00459313  # slli x6, x11, 4
-    .word 0x0055d393  # srli x7, x11, 5
-    .word 0x00734333  # xor x6, x6, x7
-    .word 0x00b30333  # add x6, x6, x11
-    .word 0x00367413  # andi x8, x12, 3
-    .word 0x00241413  # slli x8, x8, 2
-    .word 0x00240433  # add x8, x8, x2
-    .word 0x00042403  # lw x8, 0(x8)
-    .word 0x008603b3  # add x7, x12, x8
-    .word 0x00734333  # xor x6, x6, x7
-    .word 0x00650533  # add x10, x10, x6
-    .word 0x00e60633  # add x12, x12, x14
-    .word 0x00451313  # slli x6, x10, 4
-    .word 0x00555393  # srli x7, x10, 5
-    .word 0x00734333  # xor x6, x6, x7
-    .word 0x00a30333  # add x6, x6, x10
-    .word 0x00b65413  # srli x8, x12, 11
-    .word 0x00347413  # andi x8, x8, 3
-    .word 0x00241413  # slli x8, x8, 2
-    .word 0x00240433  # add x8, x8, x2
-    .word 0x00042403  # lw x8, 0(x8)
-    .word 0x008603b3  # add x7, x12, x8
-    .word 0x00734333  # xor x6, x6, x7
-    .word 0x006585b3  # add x11, x11, x6
-    .word 0x00459313  # slli x6, x11, 4
-    .word 0x0055d393  # srli x7, x11, 5
-    .word 0x00734333  # xor x6, x6, x7
-    .word 0x00b30333  # add x6, x6, x11
-    .word 0x00367413  # andi x8, x12, 3
-    .word 0x00241413  # slli x8, x8, 2
-    .word 0x00240433  # add x8, x8, x2
-    .word 0x00042403  # lw x8, 0(x8)
-    .word 0x008603b3  # add x7, x12, x8
-    .word 0x00734333  # xor x6, x6, x7
-    .word 0x00650533  # add x10, x10, x6
-    .word 0x00e60633  # add x12, x12, x14
-    .word 0x00451313  # slli x6, x10, 4
-    .word 0x00555393  # srli x7, x10, 5
-    .word 0x00734333  # xor x6, x6, x7
-    .word 0x00a30333  # add x6, x6, x10
-    .word 0x00b65413  # srli x8, x12, 11
-    .word 0x00347413  # andi x8, x8, 3
-    .word 0x00241413  # slli x8, x8, 2
-    .word 0x00240433  # add x8, x8, x2
-    .word 0x00042403  # lw x8, 0(x8)
-    .word 0x008603b3  # add x7, x12, x8
-    .word 0x00734333  # xor x6, x6, x7
-    .word 0x006585b3  # add x11, x11, x6
     .word 0x00168693  # addi x13, x13, 1
-    .word 0x0086b293  # sltiu x5, x13, 8
-    .word 0xe6029ce3  # bne x5, x0, -392
+    .word 0x0206b293  # sltiu x5, x13, 32
+    .word 0xf8029ce3  # bne x5, x0, -104
     .word 0xfff68693  # addi x13, x13, -1
     .word 0x00a12823  # sw x10, 16(x2)
     .word 0x00b12a23  # sw x11, 20(x2)
     # the result
     .word 0x00000513  # addi x10, x0, 0
     # parameter 1: the array, back
-    .word 0x03c12283  # lw x5, 60(x2)
-    .word 0x01010313  # addi x6, x2, 16
-    .word 0x00032e03  # lw x28, 0(x6)
-    .word 0x01c2a023  # sw x28, 0(x5)
-    .word 0x00432e03  # lw x28, 4(x6)
-    .word 0x01c2a223  # sw x28, 4(x5)
+    .word 0x01010293  # addi x5, x2, 16
+    .word 0x03c12303  # lw x6, 60(x2)
+    .word 0x0002ae03  # lw x28, 0(x5)
+    .word 0x01c32023  # sw x28, 0(x6)
+    .word 0x0042ae03  # lw x28, 4(x5)
+    .word 0x01c32223  # sw x28, 4(x6)
     # above the frame
     .word 0x03010293  # addi x5, x2, 48
     # the caller's registers
@@ -171,12 +99,8 @@ xtea_encrypt:
     .word 0x00012223  # sw x0, 4(x2)
     .word 0x00012423  # sw x0, 8(x2)
     .word 0x00012623  # sw x0, 12(x2)
-    .word 0x00012823  # sw x0, 16(x2)
-    .word 0x00012a23  # sw x0, 20(x2)
-    .word 0x00012c23  # sw x0, 24(x2)
-    .word 0x00012e23  # sw x0, 28(x2)
-    .word 0x02010113  # addi x2, x2, 32
-    .word 0xfc511ee3  # bne x2, x5, -36
+    .word 0x01010113  # addi x2, x2, 16
+    .word 0xfe5116e3  # bne x2, x5, -20
     .cfi_def_cfa 2, 0
     # temporaries, wiped
     .word 0x00000293  # addi x5, x0, 0

@@ -6,7 +6,7 @@
 #define FACT_base64_decode_H
 #include <stdbool.h>
 #include <stdint.h>
-#define base64_decode_STACK_BYTES 160
+#define base64_decode_STACK_BYTES 176
 #ifdef __cplusplus
 extern "C" {
 #endif

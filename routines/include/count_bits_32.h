@@ -6,7 +6,7 @@
 #define FACT_count_bits_32_H
 #include <stdbool.h>
 #include <stdint.h>
-#define count_bits_32_STACK_BYTES 32
+#define count_bits_32_STACK_BYTES 16
 #ifdef __cplusplus
 extern "C" {
 #endif

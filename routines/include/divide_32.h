@@ -6,7 +6,7 @@
 #define FACT_divide_32_H
 #include <stdbool.h>
 #include <stdint.h>
-#define divide_32_STACK_BYTES 64
+#define divide_32_STACK_BYTES 48
 #ifdef __cplusplus
 extern "C" {
 #endif

@@ -6,7 +6,7 @@
 #define FACT_equal_32_H
 #include <stdbool.h>
 #include <stdint.h>
-#define equal_32_STACK_BYTES 96
+#define equal_32_STACK_BYTES 80
 #ifdef __cplusplus
 extern "C" {
 #endif

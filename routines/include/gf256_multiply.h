@@ -6,7 +6,7 @@
 #define FACT_gf256_multiply_H
 #include <stdbool.h>
 #include <stdint.h>
-#define gf256_multiply_STACK_BYTES 96
+#define gf256_multiply_STACK_BYTES 112
 #ifdef __cplusplus
 extern "C" {
 #endif

@@ -6,7 +6,7 @@
 #define FACT_hotp_digits_H
 #include <stdbool.h>
 #include <stdint.h>
-#define hotp_digits_STACK_BYTES 48
+#define hotp_digits_STACK_BYTES 32
 #ifdef __cplusplus
 extern "C" {
 #endif

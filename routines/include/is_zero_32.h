@@ -6,7 +6,7 @@
 #define FACT_is_zero_32_H
 #include <stdbool.h>
 #include <stdint.h>
-#define is_zero_32_STACK_BYTES 64
+#define is_zero_32_STACK_BYTES 48
 #ifdef __cplusplus
 extern "C" {
 #endif

@@ -6,7 +6,7 @@
 #define FACT_leading_zeros_32_H
 #include <stdbool.h>
 #include <stdint.h>
-#define leading_zeros_32_STACK_BYTES 32
+#define leading_zeros_32_STACK_BYTES 16
 #ifdef __cplusplus
 extern "C" {
 #endif

@@ -6,7 +6,7 @@
 #define FACT_less_32_H
 #include <stdbool.h>
 #include <stdint.h>
-#define less_32_STACK_BYTES 96
+#define less_32_STACK_BYTES 80
 #ifdef __cplusplus
 extern "C" {
 #endif

@@ -6,7 +6,7 @@
 #define FACT_lookup_256_H
 #include <stdbool.h>
 #include <stdint.h>
-#define lookup_256_STACK_BYTES 288
+#define lookup_256_STACK_BYTES 272
 #ifdef __cplusplus
 extern "C" {
 #endif

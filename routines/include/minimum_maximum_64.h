@@ -6,7 +6,7 @@
 #define FACT_minimum_maximum_64_H
 #include <stdbool.h>
 #include <stdint.h>
-#define minimum_maximum_64_STACK_BYTES 80
+#define minimum_maximum_64_STACK_BYTES 64
 #ifdef __cplusplus
 extern "C" {
 #endif

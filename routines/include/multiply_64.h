@@ -6,7 +6,7 @@
 #define FACT_multiply_64_H
 #include <stdbool.h>
 #include <stdint.h>
-#define multiply_64_STACK_BYTES 64
+#define multiply_64_STACK_BYTES 48
 #ifdef __cplusplus
 extern "C" {
 #endif

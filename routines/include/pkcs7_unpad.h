@@ -6,7 +6,7 @@
 #define FACT_pkcs7_unpad_H
 #include <stdbool.h>
 #include <stdint.h>
-#define pkcs7_unpad_STACK_BYTES 48
+#define pkcs7_unpad_STACK_BYTES 32
 #ifdef __cplusplus
 extern "C" {
 #endif

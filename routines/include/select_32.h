@@ -6,7 +6,7 @@
 #define FACT_select_32_H
 #include <stdbool.h>
 #include <stdint.h>
-#define select_32_STACK_BYTES 144
+#define select_32_STACK_BYTES 128
 #ifdef __cplusplus
 extern "C" {
 #endif

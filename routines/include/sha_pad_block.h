@@ -6,7 +6,7 @@
 #define FACT_sha_pad_block_H
 #include <stdbool.h>
 #include <stdint.h>
-#define sha_pad_block_STACK_BYTES 112
+#define sha_pad_block_STACK_BYTES 128
 #ifdef __cplusplus
 extern "C" {
 #endif

@@ -6,7 +6,7 @@
 #define FACT_square_root_32_H
 #include <stdbool.h>
 #include <stdint.h>
-#define square_root_32_STACK_BYTES 32
+#define square_root_32_STACK_BYTES 16
 #ifdef __cplusplus
 extern "C" {
 #endif

@@ -6,7 +6,7 @@
 #define FACT_swap_32_H
 #include <stdbool.h>
 #include <stdint.h>
-#define swap_32_STACK_BYTES 112
+#define swap_32_STACK_BYTES 96
 #ifdef __cplusplus
 extern "C" {
 #endif

@@ -1,4 +1,4 @@
-# aes128_ctr: made by factc 1.0.0 function; 1043 words, 1024 bytes of stack, profile 1
+# aes128_ctr: made by factc 1.0.0 function; 1031 words, 1024 bytes of stack, profile 1
     .option push
     .option norvc
     .option norelax
@@ -72,26 +72,14 @@ aes128_ctr:
     # parameter 3: a word
     .word 0x26d12823  # sw x13, 624(x2)
     # the body
-    .word 0x00000513  # addi x10, x0, 0
-    .word 0x00000593  # addi x11, x0, 0
-    .word 0x00000613  # addi x12, x0, 0
-    .word 0x00000693  # addi x13, x0, 0
-    .word 0x00000713  # addi x14, x0, 0
-    .word 0x00000793  # addi x15, x0, 0
-    .word 0x00000813  # addi x16, x0, 0
-    .word 0x00000893  # addi x17, x0, 0
     .word 0x00000913  # addi x18, x0, 0
-    .word 0x00000a13  # addi x20, x0, 0
     .word 0x00000a93  # addi x21, x0, 0
     .word 0x00000b13  # addi x22, x0, 0
-    .word 0x00000b93  # addi x23, x0, 0
     .word 0x00000c13  # addi x24, x0, 0
     .word 0x002a9c93  # slli x25, x21, 2
     .word 0x002c8cb3  # add x25, x25, x2
     .word 0x002b1d13  # slli x26, x22, 2
     .word 0x002d0d33  # add x26, x26, x2
-    .word 0x002b9d93  # slli x27, x23, 2
-    .word 0x002d8db3  # add x27, x27, x2
     .word 0x000102b7  # lui x5, 0x00010
     .word 0xf0028293  # addi x5, x5, -256
     .word 0x38512423  # sw x5, 904(x2)
@@ -1026,20 +1014,20 @@ aes128_ctr:
     # the result
     .word 0x00000513  # addi x10, x0, 0
     # parameter 1: the array, back
-    .word 0x3f812283  # lw x5, 1016(x2)
-    .word 0x16010313  # addi x6, x2, 352
+    .word 0x16010293  # addi x5, x2, 352
+    .word 0x3f812303  # lw x6, 1016(x2)
     .word 0x01028393  # addi x7, x5, 16
-    .word 0x00034e03  # lbu x28, 0(x6)
-    .word 0x01c28023  # sb x28, 0(x5)
+    .word 0x0002ce03  # lbu x28, 0(x5)
+    .word 0x01c30023  # sb x28, 0(x6)
     .word 0x00128293  # addi x5, x5, 1
     .word 0x00130313  # addi x6, x6, 1
     .word 0xfe7298e3  # bne x5, x7, -16
     # parameter 2: the array, back
-    .word 0x3fc12283  # lw x5, 1020(x2)
-    .word 0x17010313  # addi x6, x2, 368
+    .word 0x17010293  # addi x5, x2, 368
+    .word 0x3fc12303  # lw x6, 1020(x2)
     .word 0x10028393  # addi x7, x5, 256
-    .word 0x00034e03  # lbu x28, 0(x6)
-    .word 0x01c28023  # sb x28, 0(x5)
+    .word 0x0002ce03  # lbu x28, 0(x5)
+    .word 0x01c30023  # sb x28, 0(x6)
     .word 0x00128293  # addi x5, x5, 1
     .word 0x00130313  # addi x6, x6, 1
     .word 0xfe7298e3  # bne x5, x7, -16

@@ -1,4 +1,4 @@
-# base64_decode: made by factc 1.0.0 function; 179 words, 176 bytes of stack, profile 1
+# base64_decode: made by factc 1.0.0 function; 175 words, 176 bytes of stack, profile 1
     .option push
     .option norvc
     .option norelax
@@ -53,11 +53,7 @@ base64_decode:
     # the body
     .word 0x04012503  # lw x10, 64(x2)
     .word 0x00000713  # addi x14, x0, 0
-    .word 0x00000793  # addi x15, x0, 0
-    .word 0x00000813  # addi x16, x0, 0
     .word 0x00000893  # addi x17, x0, 0
-    .word 0x00000913  # addi x18, x0, 0
-    .word 0x00000993  # addi x19, x0, 0
     .word 0x00000a13  # addi x20, x0, 0
     .word 0x00010ab7  # lui x21, 0x00010
     .word 0xf00a8a93  # addi x21, x21, -256
@@ -169,11 +165,11 @@ base64_decode:
     # the result
     .word 0x07412503  # lw x10, 116(x2)
     # parameter 2: the array, back
-    .word 0x0ac12283  # lw x5, 172(x2)
-    .word 0x04410313  # addi x6, x2, 68
+    .word 0x04410293  # addi x5, x2, 68
+    .word 0x0ac12303  # lw x6, 172(x2)
     .word 0x03028393  # addi x7, x5, 48
-    .word 0x00034e03  # lbu x28, 0(x6)
-    .word 0x01c28023  # sb x28, 0(x5)
+    .word 0x0002ce03  # lbu x28, 0(x5)
+    .word 0x01c30023  # sb x28, 0(x6)
     .word 0x00128293  # addi x5, x5, 1
     .word 0x00130313  # addi x6, x6, 1
     .word 0xfe7298e3  # bne x5, x7, -16

@@ -1,4 +1,4 @@
-# chacha20_blocks: made by factc 1.0.0 function; 627 words, 640 bytes of stack, profile 1
+# chacha20_blocks: made by factc 1.0.0 function; 612 words, 640 bytes of stack, profile 1
     .option push
     .option norvc
     .option norelax
@@ -75,21 +75,6 @@ chacha20_blocks:
     # parameter 4: a word
     .word 0x12e12823  # sw x14, 304(x2)
     # the body
-    .word 0x00000513  # addi x10, x0, 0
-    .word 0x00000593  # addi x11, x0, 0
-    .word 0x00000613  # addi x12, x0, 0
-    .word 0x00000693  # addi x13, x0, 0
-    .word 0x00000793  # addi x15, x0, 0
-    .word 0x00000813  # addi x16, x0, 0
-    .word 0x00000893  # addi x17, x0, 0
-    .word 0x00000913  # addi x18, x0, 0
-    .word 0x00000993  # addi x19, x0, 0
-    .word 0x00000a13  # addi x20, x0, 0
-    .word 0x00000a93  # addi x21, x0, 0
-    .word 0x00000b13  # addi x22, x0, 0
-    .word 0x00000b93  # addi x23, x0, 0
-    .word 0x00000c13  # addi x24, x0, 0
-    .word 0x00000c93  # addi x25, x0, 0
     .word 0x00000d13  # addi x26, x0, 0
     .word 0x00000d93  # addi x27, x0, 0
     .word 0x00014283  # lbu x5, 0(x2)
@@ -320,164 +305,164 @@ chacha20_blocks:
     .word 0x22612c23  # sw x6, 568(x2)
     .word 0x00e50533  # add x10, x10, x14
     .word 0x00ab4b33  # xor x22, x22, x10
-    .word 0x010b1293  # slli x5, x22, 16
-    .word 0x010b5313  # srli x6, x22, 16
-    .word 0x0062eb33  # or x22, x5, x6
+    .word 0x010b1f13  # slli x30, x22, 16
+    .word 0x010b5b13  # srli x22, x22, 16
+    .word 0x016f0b33  # add x22, x30, x22
     .word 0x01690933  # add x18, x18, x22
     .word 0x01274733  # xor x14, x14, x18
-    .word 0x00c71293  # slli x5, x14, 12
-    .word 0x01475313  # srli x6, x14, 20
-    .word 0x0062e733  # or x14, x5, x6
+    .word 0x00c71f13  # slli x30, x14, 12
+    .word 0x01475713  # srli x14, x14, 20
+    .word 0x00ef0733  # add x14, x30, x14
     .word 0x00e50533  # add x10, x10, x14
     .word 0x00ab4b33  # xor x22, x22, x10
-    .word 0x008b1293  # slli x5, x22, 8
-    .word 0x018b5313  # srli x6, x22, 24
-    .word 0x0062eb33  # or x22, x5, x6
+    .word 0x008b1f13  # slli x30, x22, 8
+    .word 0x018b5b13  # srli x22, x22, 24
+    .word 0x016f0b33  # add x22, x30, x22
     .word 0x01690933  # add x18, x18, x22
     .word 0x01274733  # xor x14, x14, x18
-    .word 0x00771293  # slli x5, x14, 7
-    .word 0x01975313  # srli x6, x14, 25
-    .word 0x0062e733  # or x14, x5, x6
+    .word 0x00771f13  # slli x30, x14, 7
+    .word 0x01975713  # srli x14, x14, 25
+    .word 0x00ef0733  # add x14, x30, x14
     .word 0x00f585b3  # add x11, x11, x15
     .word 0x00bbcbb3  # xor x23, x23, x11
-    .word 0x010b9293  # slli x5, x23, 16
-    .word 0x010bd313  # srli x6, x23, 16
-    .word 0x0062ebb3  # or x23, x5, x6
+    .word 0x010b9f13  # slli x30, x23, 16
+    .word 0x010bdb93  # srli x23, x23, 16
+    .word 0x017f0bb3  # add x23, x30, x23
     .word 0x017989b3  # add x19, x19, x23
     .word 0x0137c7b3  # xor x15, x15, x19
-    .word 0x00c79293  # slli x5, x15, 12
-    .word 0x0147d313  # srli x6, x15, 20
-    .word 0x0062e7b3  # or x15, x5, x6
+    .word 0x00c79f13  # slli x30, x15, 12
+    .word 0x0147d793  # srli x15, x15, 20
+    .word 0x00ff07b3  # add x15, x30, x15
     .word 0x00f585b3  # add x11, x11, x15
     .word 0x00bbcbb3  # xor x23, x23, x11
-    .word 0x008b9293  # slli x5, x23, 8
-    .word 0x018bd313  # srli x6, x23, 24
-    .word 0x0062ebb3  # or x23, x5, x6
+    .word 0x008b9f13  # slli x30, x23, 8
+    .word 0x018bdb93  # srli x23, x23, 24
+    .word 0x017f0bb3  # add x23, x30, x23
     .word 0x017989b3  # add x19, x19, x23
     .word 0x0137c7b3  # xor x15, x15, x19
-    .word 0x00779293  # slli x5, x15, 7
-    .word 0x0197d313  # srli x6, x15, 25
-    .word 0x0062e7b3  # or x15, x5, x6
+    .word 0x00779f13  # slli x30, x15, 7
+    .word 0x0197d793  # srli x15, x15, 25
+    .word 0x00ff07b3  # add x15, x30, x15
     .word 0x01060633  # add x12, x12, x16
     .word 0x00cc4c33  # xor x24, x24, x12
-    .word 0x010c1293  # slli x5, x24, 16
-    .word 0x010c5313  # srli x6, x24, 16
-    .word 0x0062ec33  # or x24, x5, x6
+    .word 0x010c1f13  # slli x30, x24, 16
+    .word 0x010c5c13  # srli x24, x24, 16
+    .word 0x018f0c33  # add x24, x30, x24
     .word 0x018a0a33  # add x20, x20, x24
     .word 0x01484833  # xor x16, x16, x20
-    .word 0x00c81293  # slli x5, x16, 12
-    .word 0x01485313  # srli x6, x16, 20
-    .word 0x0062e833  # or x16, x5, x6
+    .word 0x00c81f13  # slli x30, x16, 12
+    .word 0x01485813  # srli x16, x16, 20
+    .word 0x010f0833  # add x16, x30, x16
     .word 0x01060633  # add x12, x12, x16
     .word 0x00cc4c33  # xor x24, x24, x12
-    .word 0x008c1293  # slli x5, x24, 8
-    .word 0x018c5313  # srli x6, x24, 24
-    .word 0x0062ec33  # or x24, x5, x6
+    .word 0x008c1f13  # slli x30, x24, 8
+    .word 0x018c5c13  # srli x24, x24, 24
+    .word 0x018f0c33  # add x24, x30, x24
     .word 0x018a0a33  # add x20, x20, x24
     .word 0x01484833  # xor x16, x16, x20
-    .word 0x00781293  # slli x5, x16, 7
-    .word 0x01985313  # srli x6, x16, 25
-    .word 0x0062e833  # or x16, x5, x6
+    .word 0x00781f13  # slli x30, x16, 7
+    .word 0x01985813  # srli x16, x16, 25
+    .word 0x010f0833  # add x16, x30, x16
     .word 0x011686b3  # add x13, x13, x17
     .word 0x00dcccb3  # xor x25, x25, x13
-    .word 0x010c9293  # slli x5, x25, 16
-    .word 0x010cd313  # srli x6, x25, 16
-    .word 0x0062ecb3  # or x25, x5, x6
+    .word 0x010c9f13  # slli x30, x25, 16
+    .word 0x010cdc93  # srli x25, x25, 16
+    .word 0x019f0cb3  # add x25, x30, x25
     .word 0x019a8ab3  # add x21, x21, x25
     .word 0x0158c8b3  # xor x17, x17, x21
-    .word 0x00c89293  # slli x5, x17, 12
-    .word 0x0148d313  # srli x6, x17, 20
-    .word 0x0062e8b3  # or x17, x5, x6
+    .word 0x00c89f13  # slli x30, x17, 12
+    .word 0x0148d893  # srli x17, x17, 20
+    .word 0x011f08b3  # add x17, x30, x17
     .word 0x011686b3  # add x13, x13, x17
     .word 0x00dcccb3  # xor x25, x25, x13
-    .word 0x008c9293  # slli x5, x25, 8
-    .word 0x018cd313  # srli x6, x25, 24
-    .word 0x0062ecb3  # or x25, x5, x6
+    .word 0x008c9f13  # slli x30, x25, 8
+    .word 0x018cdc93  # srli x25, x25, 24
+    .word 0x019f0cb3  # add x25, x30, x25
     .word 0x019a8ab3  # add x21, x21, x25
     .word 0x0158c8b3  # xor x17, x17, x21
-    .word 0x00789293  # slli x5, x17, 7
-    .word 0x0198d313  # srli x6, x17, 25
-    .word 0x0062e8b3  # or x17, x5, x6
+    .word 0x00789f13  # slli x30, x17, 7
+    .word 0x0198d893  # srli x17, x17, 25
+    .word 0x011f08b3  # add x17, x30, x17
     .word 0x00f50533  # add x10, x10, x15
     .word 0x00acccb3  # xor x25, x25, x10
-    .word 0x010c9293  # slli x5, x25, 16
-    .word 0x010cd313  # srli x6, x25, 16
-    .word 0x0062ecb3  # or x25, x5, x6
+    .word 0x010c9f13  # slli x30, x25, 16
+    .word 0x010cdc93  # srli x25, x25, 16
+    .word 0x019f0cb3  # add x25, x30, x25
     .word 0x019a0a33  # add x20, x20, x25
     .word 0x0147c7b3  # xor x15, x15, x20
-    .word 0x00c79293  # slli x5, x15, 12
-    .word 0x0147d313  # srli x6, x15, 20
-    .word 0x0062e7b3  # or x15, x5, x6
+    .word 0x00c79f13  # slli x30, x15, 12
+    .word 0x0147d793  # srli x15, x15, 20
+    .word 0x00ff07b3  # add x15, x30, x15
     .word 0x00f50533  # add x10, x10, x15
     .word 0x00acccb3  # xor x25, x25, x10
-    .word 0x008c9293  # slli x5, x25, 8
-    .word 0x018cd313  # srli x6, x25, 24
-    .word 0x0062ecb3  # or x25, x5, x6
+    .word 0x008c9f13  # slli x30, x25, 8
+    .word 0x018cdc93  # srli x25, x25, 24
+    .word 0x019f0cb3  # add x25, x30, x25
     .word 0x019a0a33  # add x20, x20, x25
     .word 0x0147c7b3  # xor x15, x15, x20
-    .word 0x00779293  # slli x5, x15, 7
-    .word 0x0197d313  # srli x6, x15, 25
-    .word 0x0062e7b3  # or x15, x5, x6
+    .word 0x00779f13  # slli x30, x15, 7
+    .word 0x0197d793  # srli x15, x15, 25
+    .word 0x00ff07b3  # add x15, x30, x15
     .word 0x010585b3  # add x11, x11, x16
     .word 0x00bb4b33  # xor x22, x22, x11
-    .word 0x010b1293  # slli x5, x22, 16
-    .word 0x010b5313  # srli x6, x22, 16
-    .word 0x0062eb33  # or x22, x5, x6
+    .word 0x010b1f13  # slli x30, x22, 16
+    .word 0x010b5b13  # srli x22, x22, 16
+    .word 0x016f0b33  # add x22, x30, x22
     .word 0x016a8ab3  # add x21, x21, x22
     .word 0x01584833  # xor x16, x16, x21
-    .word 0x00c81293  # slli x5, x16, 12
-    .word 0x01485313  # srli x6, x16, 20
-    .word 0x0062e833  # or x16, x5, x6
+    .word 0x00c81f13  # slli x30, x16, 12
+    .word 0x01485813  # srli x16, x16, 20
+    .word 0x010f0833  # add x16, x30, x16
     .word 0x010585b3  # add x11, x11, x16
     .word 0x00bb4b33  # xor x22, x22, x11
-    .word 0x008b1293  # slli x5, x22, 8
-    .word 0x018b5313  # srli x6, x22, 24
-    .word 0x0062eb33  # or x22, x5, x6
+    .word 0x008b1f13  # slli x30, x22, 8
+    .word 0x018b5b13  # srli x22, x22, 24
+    .word 0x016f0b33  # add x22, x30, x22
     .word 0x016a8ab3  # add x21, x21, x22
     .word 0x01584833  # xor x16, x16, x21
-    .word 0x00781293  # slli x5, x16, 7
-    .word 0x01985313  # srli x6, x16, 25
-    .word 0x0062e833  # or x16, x5, x6
+    .word 0x00781f13  # slli x30, x16, 7
+    .word 0x01985813  # srli x16, x16, 25
+    .word 0x010f0833  # add x16, x30, x16
     .word 0x01160633  # add x12, x12, x17
     .word 0x00cbcbb3  # xor x23, x23, x12
-    .word 0x010b9293  # slli x5, x23, 16
-    .word 0x010bd313  # srli x6, x23, 16
-    .word 0x0062ebb3  # or x23, x5, x6
+    .word 0x010b9f13  # slli x30, x23, 16
+    .word 0x010bdb93  # srli x23, x23, 16
+    .word 0x017f0bb3  # add x23, x30, x23
     .word 0x01790933  # add x18, x18, x23
     .word 0x0128c8b3  # xor x17, x17, x18
-    .word 0x00c89293  # slli x5, x17, 12
-    .word 0x0148d313  # srli x6, x17, 20
-    .word 0x0062e8b3  # or x17, x5, x6
+    .word 0x00c89f13  # slli x30, x17, 12
+    .word 0x0148d893  # srli x17, x17, 20
+    .word 0x011f08b3  # add x17, x30, x17
     .word 0x01160633  # add x12, x12, x17
     .word 0x00cbcbb3  # xor x23, x23, x12
-    .word 0x008b9293  # slli x5, x23, 8
-    .word 0x018bd313  # srli x6, x23, 24
-    .word 0x0062ebb3  # or x23, x5, x6
+    .word 0x008b9f13  # slli x30, x23, 8
+    .word 0x018bdb93  # srli x23, x23, 24
+    .word 0x017f0bb3  # add x23, x30, x23
     .word 0x01790933  # add x18, x18, x23
     .word 0x0128c8b3  # xor x17, x17, x18
-    .word 0x00789293  # slli x5, x17, 7
-    .word 0x0198d313  # srli x6, x17, 25
-    .word 0x0062e8b3  # or x17, x5, x6
+    .word 0x00789f13  # slli x30, x17, 7
+    .word 0x0198d893  # srli x17, x17, 25
+    .word 0x011f08b3  # add x17, x30, x17
     .word 0x00e686b3  # add x13, x13, x14
     .word 0x00dc4c33  # xor x24, x24, x13
-    .word 0x010c1293  # slli x5, x24, 16
-    .word 0x010c5313  # srli x6, x24, 16
-    .word 0x0062ec33  # or x24, x5, x6
+    .word 0x010c1f13  # slli x30, x24, 16
+    .word 0x010c5c13  # srli x24, x24, 16
+    .word 0x018f0c33  # add x24, x30, x24
     .word 0x018989b3  # add x19, x19, x24
     .word 0x01374733  # xor x14, x14, x19
-    .word 0x00c71293  # slli x5, x14, 12
-    .word 0x01475313  # srli x6, x14, 20
-    .word 0x0062e733  # or x14, x5, x6
+    .word 0x00c71f13  # slli x30, x14, 12
+    .word 0x01475713  # srli x14, x14, 20
+    .word 0x00ef0733  # add x14, x30, x14
     .word 0x00e686b3  # add x13, x13, x14
     .word 0x00dc4c33  # xor x24, x24, x13
-    .word 0x008c1293  # slli x5, x24, 8
-    .word 0x018c5313  # srli x6, x24, 24
-    .word 0x0062ec33  # or x24, x5, x6
+    .word 0x008c1f13  # slli x30, x24, 8
+    .word 0x018c5c13  # srli x24, x24, 24
+    .word 0x018f0c33  # add x24, x30, x24
     .word 0x018989b3  # add x19, x19, x24
     .word 0x01374733  # xor x14, x14, x19
-    .word 0x00771293  # slli x5, x14, 7
-    .word 0x01975313  # srli x6, x14, 25
-    .word 0x0062e733  # or x14, x5, x6
+    .word 0x00771f13  # slli x30, x14, 7
+    .word 0x01975713  # srli x14, x14, 25
+    .word 0x00ef0733  # add x14, x30, x14
     .word 0xd61ff06f  # jal x0, -672
     .word 0x1ec12303  # lw x6, 492(x2)
     .word 0x006502b3  # add x5, x10, x6
@@ -619,11 +604,11 @@ chacha20_blocks:
     # the result
     .word 0x00000513  # addi x10, x0, 0
     # parameter 3: the array, back
-    .word 0x27c12283  # lw x5, 636(x2)
-    .word 0x03010313  # addi x6, x2, 48
+    .word 0x03010293  # addi x5, x2, 48
+    .word 0x27c12303  # lw x6, 636(x2)
     .word 0x10028393  # addi x7, x5, 256
-    .word 0x00034e03  # lbu x28, 0(x6)
-    .word 0x01c28023  # sb x28, 0(x5)
+    .word 0x0002ce03  # lbu x28, 0(x5)
+    .word 0x01c30023  # sb x28, 0(x6)
     .word 0x00128293  # addi x5, x5, 1
     .word 0x00130313  # addi x6, x6, 1
     .word 0xfe7298e3  # bne x5, x7, -16

@@ -1,4 +1,4 @@
-# compare_64: made by factc 1.0.0 function; 74 words, 48 bytes of stack, profile 1
+# compare_64: made by factc 1.0.0 function; 72 words, 48 bytes of stack, profile 1
     .option push
     .option norvc
     .option norelax
@@ -15,8 +15,6 @@ compare_64:
     # the caller's registers
     .word 0x00812023  # sw x8, 0(x2)
     .cfi_offset 8, -16
-    .word 0x00912223  # sw x9, 4(x2)
-    .cfi_offset 9, -12
     # arguments that are needed behind the body
     # the frame's base
     .word 0xfe010113  # addi x2, x2, -32
@@ -47,7 +45,7 @@ compare_64:
     .word 0x00812403  # lw x8, 8(x2)
     .word 0x0083b3b3  # sltu x7, x7, x8
     .word 0x00737333  # and x6, x6, x7
-    .word 0x0062e4b3  # or x9, x5, x6
+    .word 0x0062e533  # or x10, x5, x6
     .word 0x00c12283  # lw x5, 12(x2)
     .word 0x00412303  # lw x6, 4(x2)
     .word 0x0062b2b3  # sltu x5, x5, x6
@@ -59,12 +57,12 @@ compare_64:
     .word 0x00012403  # lw x8, 0(x2)
     .word 0x0083b3b3  # sltu x7, x7, x8
     .word 0x00737333  # and x6, x6, x7
-    .word 0x0062e533  # or x10, x5, x6
-    .word 0x0ff4f293  # andi x5, x9, 255
-    .word 0x0ff57313  # andi x6, x10, 255
+    .word 0x0062e5b3  # or x11, x5, x6
+    .word 0x0ff57293  # andi x5, x10, 255
+    .word 0x0ff5f313  # andi x6, x11, 255
     .word 0x006282b3  # add x5, x5, x6
     .word 0x0ff2f293  # andi x5, x5, 255
-    .word 0x0ff57313  # andi x6, x10, 255
+    .word 0x0ff5f313  # andi x6, x11, 255
     .word 0x006282b3  # add x5, x5, x6
     .word 0x0ff2f293  # andi x5, x5, 255
     .word 0x00512823  # sw x5, 16(x2)
@@ -75,8 +73,6 @@ compare_64:
     # the caller's registers
     .word 0x0002a403  # lw x8, 0(x5)
     .cfi_restore 8
-    .word 0x0042a483  # lw x9, 4(x5)
-    .cfi_restore 9
     # the caller's x2
     .word 0x01028293  # addi x5, x5, 16
     .cfi_def_cfa 5, 0

@@ -6,7 +6,7 @@
 #define FACT_copy_if_32_H
 #include <stdbool.h>
 #include <stdint.h>
-#define copy_if_32_STACK_BYTES 112
+#define copy_if_32_STACK_BYTES 96
 #ifdef __cplusplus
 extern "C" {
 #endif

@@ -1,4 +1,4 @@
-# copy_if_32: made by factc 1.0.0 function; 79 words, 112 bytes of stack, profile 1
+# copy_if_32: made by factc 1.0.0 function; 73 words, 96 bytes of stack, profile 1
     .option push
     .option norvc
     .option norelax
@@ -10,20 +10,16 @@
 copy_if_32:
     .cfi_startproc
     # room above the frame
-    .word 0xfe010113  # addi x2, x2, -32
-    .cfi_def_cfa_offset 32
+    .word 0xff010113  # addi x2, x2, -16
+    .cfi_def_cfa_offset 16
     # the caller's registers
-    .word 0x00812023  # sw x8, 0(x2)
-    .cfi_offset 8, -32
-    .word 0x00912223  # sw x9, 4(x2)
-    .cfi_offset 9, -28
     # arguments that are needed behind the body
-    .word 0x00a12a23  # sw x10, 20(x2)
-    .word 0x00b12c23  # sw x11, 24(x2)
-    .word 0x00c12e23  # sw x12, 28(x2)
+    .word 0x00a12223  # sw x10, 4(x2)
+    .word 0x00b12423  # sw x11, 8(x2)
+    .word 0x00c12623  # sw x12, 12(x2)
     # the frame's base
     .word 0xfb010113  # addi x2, x2, -80
-    .cfi_def_cfa 2, 112
+    .cfi_def_cfa 2, 96
     # parameter 0: a word
     .word 0x00a03533  # sltu x10, x0, x10
     .word 0x00a12023  # sw x10, 0(x2)
@@ -46,46 +42,40 @@ copy_if_32:
     .word 0x00130313  # addi x6, x6, 1
     .word 0xfe7298e3  # bne x5, x7, -16
     # the body
-    .word 0x00012403  # lw x8, 0(x2)
-    .word 0x00000513  # addi x10, x0, 0
-    .word 0x00000593  # addi x11, x0, 0
+    .word 0x00012503  # lw x10, 0(x2)
     .word 0x00000613  # addi x12, x0, 0
-    .word 0x002506b3  # add x13, x10, x2
-    .word 0x408004b3  # sub x9, x0, x8
-    .word 0x00000513  # addi x10, x0, 0
-    .word 0x002506b3  # add x13, x10, x2
-    .word 0x0246c583  # lbu x11, 36(x13)
-    .word 0x0046c283  # lbu x5, 4(x13)
-    .word 0x00b2c2b3  # xor x5, x5, x11
-    .word 0x0092f633  # and x12, x5, x9
-    .word 0x00c5c2b3  # xor x5, x11, x12
-    .word 0x02568223  # sb x5, 36(x13)
-    .word 0x00150513  # addi x10, x10, 1
-    .word 0x002506b3  # add x13, x10, x2
-    .word 0x02053293  # sltiu x5, x10, 32
+    .word 0x002607b3  # add x15, x12, x2
+    .word 0x40a005b3  # sub x11, x0, x10
+    .word 0x00000613  # addi x12, x0, 0
+    .word 0x002607b3  # add x15, x12, x2
+    .word 0x0247c683  # lbu x13, 36(x15)
+    .word 0x0047c283  # lbu x5, 4(x15)
+    .word 0x00d2c2b3  # xor x5, x5, x13
+    .word 0x00b2f733  # and x14, x5, x11
+    .word 0x00e6c2b3  # xor x5, x13, x14
+    .word 0x02578223  # sb x5, 36(x15)
+    .word 0x00160613  # addi x12, x12, 1
+    .word 0x002607b3  # add x15, x12, x2
+    .word 0x02063293  # sltiu x5, x12, 32
     .word 0xfc029ee3  # bne x5, x0, -36
-    .word 0xfff50513  # addi x10, x10, -1
-    .word 0x002506b3  # add x13, x10, x2
+    .word 0xfff60613  # addi x12, x12, -1
+    .word 0x002607b3  # add x15, x12, x2
     # the result
     .word 0x00000513  # addi x10, x0, 0
     # parameter 2: the array, back
-    .word 0x06c12283  # lw x5, 108(x2)
-    .word 0x02410313  # addi x6, x2, 36
+    .word 0x02410293  # addi x5, x2, 36
+    .word 0x05c12303  # lw x6, 92(x2)
     .word 0x02028393  # addi x7, x5, 32
-    .word 0x00034e03  # lbu x28, 0(x6)
-    .word 0x01c28023  # sb x28, 0(x5)
+    .word 0x0002ce03  # lbu x28, 0(x5)
+    .word 0x01c30023  # sb x28, 0(x6)
     .word 0x00128293  # addi x5, x5, 1
     .word 0x00130313  # addi x6, x6, 1
     .word 0xfe7298e3  # bne x5, x7, -16
     # above the frame
     .word 0x05010293  # addi x5, x2, 80
     # the caller's registers
-    .word 0x0002a403  # lw x8, 0(x5)
-    .cfi_restore 8
-    .word 0x0042a483  # lw x9, 4(x5)
-    .cfi_restore 9
     # the caller's x2
-    .word 0x02028293  # addi x5, x5, 32
+    .word 0x01028293  # addi x5, x5, 16
     .cfi_def_cfa 5, 0
     # all the room, wiped upward
     .word 0x00012023  # sw x0, 0(x2)

@@ -6,7 +6,7 @@
 #define FACT_crc32_H
 #include <stdbool.h>
 #include <stdint.h>
-#define crc32_STACK_BYTES 112
+#define crc32_STACK_BYTES 96
 #ifdef __cplusplus
 extern "C" {
 #endif

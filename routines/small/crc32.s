@@ -1,4 +1,4 @@
-# crc32: made by factc 1.0.0 function; 71 words, 112 bytes of stack, profile 1
+# crc32: made by factc 1.0.0 function; 68 words, 96 bytes of stack, profile 1
     .option push
     .option norvc
     .option norelax
@@ -10,15 +10,12 @@
 crc32:
     .cfi_startproc
     # room above the frame
-    .word 0xff010113  # addi x2, x2, -16
-    .cfi_def_cfa_offset 16
+    .cfi_def_cfa_offset 0
     # the caller's registers
-    .word 0x00912023  # sw x9, 0(x2)
-    .cfi_offset 9, -16
     # arguments that are needed behind the body
     # the frame's base
     .word 0xfa010113  # addi x2, x2, -96
-    .cfi_def_cfa 2, 112
+    .cfi_def_cfa 2, 96
     # parameter 0: a word
     .word 0x00a12023  # sw x10, 0(x2)
     # parameter 1: an array
@@ -33,48 +30,46 @@ crc32:
     # parameter 2: a word
     .word 0x04c12223  # sw x12, 68(x2)
     # the body
-    .word 0x00012483  # lw x9, 0(x2)
-    .word 0x04412503  # lw x10, 68(x2)
-    .word 0x00000693  # addi x13, x0, 0
+    .word 0x00012503  # lw x10, 0(x2)
+    .word 0x04412583  # lw x11, 68(x2)
     .word 0x00000713  # addi x14, x0, 0
-    .word 0xfff4c593  # xori x11, x9, -1
-    .word 0xedb88637  # lui x12, 0xedb88
-    .word 0x32060613  # addi x12, x12, 800
-    .word 0x00000693  # addi x13, x0, 0
-    .word 0x04a6f663  # bgeu x13, x10, 76
-    .word 0x00268333  # add x6, x13, x2
+    .word 0x00000793  # addi x15, x0, 0
+    .word 0xfff54613  # xori x12, x10, -1
+    .word 0xedb886b7  # lui x13, 0xedb88
+    .word 0x32068693  # addi x13, x13, 800
+    .word 0x00000713  # addi x14, x0, 0
+    .word 0x04b77663  # bgeu x14, x11, 76
+    .word 0x00270333  # add x6, x14, x2
     .word 0x00434303  # lbu x6, 4(x6)
-    .word 0x0065c5b3  # xor x11, x11, x6
-    .word 0x00000713  # addi x14, x0, 0
-    .word 0x0015d293  # srli x5, x11, 1
-    .word 0x0015f393  # andi x7, x11, 1
+    .word 0x00664633  # xor x12, x12, x6
+    .word 0x00000793  # addi x15, x0, 0
+    .word 0x00165293  # srli x5, x12, 1
+    .word 0x00167393  # andi x7, x12, 1
     .word 0x407003b3  # sub x7, x0, x7
-    .word 0x00767333  # and x6, x12, x7
-    .word 0x0062c5b3  # xor x11, x5, x6
-    .word 0x0015d293  # srli x5, x11, 1
-    .word 0x0015f393  # andi x7, x11, 1
+    .word 0x0076f333  # and x6, x13, x7
+    .word 0x0062c633  # xor x12, x5, x6
+    .word 0x00165293  # srli x5, x12, 1
+    .word 0x00167393  # andi x7, x12, 1
     .word 0x407003b3  # sub x7, x0, x7
-    .word 0x00767333  # and x6, x12, x7
-    .word 0x0062c5b3  # xor x11, x5, x6
-    .word 0x00170713  # addi x14, x14, 1
-    .word 0x00473293  # sltiu x5, x14, 4
+    .word 0x0076f333  # and x6, x13, x7
+    .word 0x0062c633  # xor x12, x5, x6
+    .word 0x00178793  # addi x15, x15, 1
+    .word 0x0047b293  # sltiu x5, x15, 4
     .word 0xfc0298e3  # bne x5, x0, -48
-    .word 0xfff70713  # addi x14, x14, -1
-    .word 0x00168693  # addi x13, x13, 1
-    .word 0x0406b293  # sltiu x5, x13, 64
+    .word 0xfff78793  # addi x15, x15, -1
+    .word 0x00170713  # addi x14, x14, 1
+    .word 0x04073293  # sltiu x5, x14, 64
     .word 0xfa0296e3  # bne x5, x0, -84
-    .word 0xfff68693  # addi x13, x13, -1
-    .word 0xfff5c293  # xori x5, x11, -1
+    .word 0xfff70713  # addi x14, x14, -1
+    .word 0xfff64293  # xori x5, x12, -1
     .word 0x04512423  # sw x5, 72(x2)
     # the result
     .word 0x04812503  # lw x10, 72(x2)
     # above the frame
     .word 0x06010293  # addi x5, x2, 96
     # the caller's registers
-    .word 0x0002a483  # lw x9, 0(x5)
-    .cfi_restore 9
     # the caller's x2
-    .word 0x01028293  # addi x5, x5, 16
+    .word 0x00028293  # addi x5, x5, 0
     .cfi_def_cfa 5, 0
     # all the room, wiped upward
     .word 0x00012023  # sw x0, 0(x2)

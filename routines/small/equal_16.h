@@ -6,7 +6,7 @@
 #define FACT_equal_16_H
 #include <stdbool.h>
 #include <stdint.h>
-#define equal_16_STACK_BYTES 64
+#define equal_16_STACK_BYTES 48
 #ifdef __cplusplus
 extern "C" {
 #endif

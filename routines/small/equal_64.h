@@ -6,7 +6,7 @@
 #define FACT_equal_64_H
 #include <stdbool.h>
 #include <stdint.h>
-#define equal_64_STACK_BYTES 160
+#define equal_64_STACK_BYTES 144
 #ifdef __cplusplus
 extern "C" {
 #endif

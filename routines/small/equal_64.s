@@ -1,4 +1,4 @@
-# equal_64: made by factc 1.0.0 function; 63 words, 160 bytes of stack, profile 1
+# equal_64: made by factc 1.0.0 function; 58 words, 144 bytes of stack, profile 1
     .option push
     .option norvc
     .option norelax
@@ -10,17 +10,12 @@
 equal_64:
     .cfi_startproc
     # room above the frame
-    .word 0xff010113  # addi x2, x2, -16
-    .cfi_def_cfa_offset 16
+    .cfi_def_cfa_offset 0
     # the caller's registers
-    .word 0x00812023  # sw x8, 0(x2)
-    .cfi_offset 8, -16
-    .word 0x00912223  # sw x9, 4(x2)
-    .cfi_offset 9, -12
     # arguments that are needed behind the body
     # the frame's base
     .word 0xf7010113  # addi x2, x2, -144
-    .cfi_def_cfa 2, 160
+    .cfi_def_cfa 2, 144
     # parameter 0: an array
     .word 0x00050293  # addi x5, x10, 0
     .word 0x00010313  # addi x6, x2, 0
@@ -40,34 +35,30 @@ equal_64:
     .word 0x00130313  # addi x6, x6, 1
     .word 0xfe7298e3  # bne x5, x7, -16
     # the body
-    .word 0x00000493  # addi x9, x0, 0
-    .word 0x00248533  # add x10, x9, x2
-    .word 0x00000413  # addi x8, x0, 0
-    .word 0x00000493  # addi x9, x0, 0
-    .word 0x00248533  # add x10, x9, x2
-    .word 0x00054303  # lbu x6, 0(x10)
-    .word 0x04054383  # lbu x7, 64(x10)
+    .word 0x00000593  # addi x11, x0, 0
+    .word 0x00258633  # add x12, x11, x2
+    .word 0x00000513  # addi x10, x0, 0
+    .word 0x00000593  # addi x11, x0, 0
+    .word 0x00258633  # add x12, x11, x2
+    .word 0x00064303  # lbu x6, 0(x12)
+    .word 0x04064383  # lbu x7, 64(x12)
     .word 0x00734333  # xor x6, x6, x7
-    .word 0x00646433  # or x8, x8, x6
-    .word 0x00148493  # addi x9, x9, 1
-    .word 0x00248533  # add x10, x9, x2
-    .word 0x0404b293  # sltiu x5, x9, 64
+    .word 0x00656533  # or x10, x10, x6
+    .word 0x00158593  # addi x11, x11, 1
+    .word 0x00258633  # add x12, x11, x2
+    .word 0x0405b293  # sltiu x5, x11, 64
     .word 0xfe0292e3  # bne x5, x0, -28
-    .word 0xfff48493  # addi x9, x9, -1
-    .word 0x00248533  # add x10, x9, x2
-    .word 0x00143293  # sltiu x5, x8, 1
+    .word 0xfff58593  # addi x11, x11, -1
+    .word 0x00258633  # add x12, x11, x2
+    .word 0x00153293  # sltiu x5, x10, 1
     .word 0x08512023  # sw x5, 128(x2)
     # the result
     .word 0x08012503  # lw x10, 128(x2)
     # above the frame
     .word 0x09010293  # addi x5, x2, 144
     # the caller's registers
-    .word 0x0002a403  # lw x8, 0(x5)
-    .cfi_restore 8
-    .word 0x0042a483  # lw x9, 4(x5)
-    .cfi_restore 9
     # the caller's x2
-    .word 0x01028293  # addi x5, x5, 16
+    .word 0x00028293  # addi x5, x5, 0
     .cfi_def_cfa 5, 0
     # all the room, wiped upward
     .word 0x00012023  # sw x0, 0(x2)

@@ -1,4 +1,4 @@
-# f25519_subtract: made by factc 1.0.0 function; 244 words, 704 bytes of stack, profile 1
+# f25519_subtract: made by factc 1.0.0 function; 241 words, 704 bytes of stack, profile 1
     .option push
     .option norvc
     .option norelax
@@ -56,11 +56,8 @@ f25519_subtract:
     .word 0xfe7298e3  # bne x5, x7, -16
     # the body
     .word 0x00000613  # addi x12, x0, 0
-    .word 0x00000693  # addi x13, x0, 0
-    .word 0x00000713  # addi x14, x0, 0
     .word 0x00000793  # addi x15, x0, 0
     .word 0x00000813  # addi x16, x0, 0
-    .word 0x00000893  # addi x17, x0, 0
     .word 0x00000913  # addi x18, x0, 0
     .word 0x00000993  # addi x19, x0, 0
     .word 0x00000a13  # addi x20, x0, 0
@@ -233,11 +230,11 @@ f25519_subtract:
     # the result
     .word 0x00000513  # addi x10, x0, 0
     # parameter 2: the array, back
-    .word 0x2bc12283  # lw x5, 700(x2)
-    .word 0x04010313  # addi x6, x2, 64
+    .word 0x04010293  # addi x5, x2, 64
+    .word 0x2bc12303  # lw x6, 700(x2)
     .word 0x02028393  # addi x7, x5, 32
-    .word 0x00032e03  # lw x28, 0(x6)
-    .word 0x01c2a023  # sw x28, 0(x5)
+    .word 0x0002ae03  # lw x28, 0(x5)
+    .word 0x01c32023  # sw x28, 0(x6)
     .word 0x00428293  # addi x5, x5, 4
     .word 0x00430313  # addi x6, x6, 4
     .word 0xfe7298e3  # bne x5, x7, -16

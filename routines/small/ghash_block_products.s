@@ -1,4 +1,4 @@
-# ghash_block_products: made by factc 1.0.0 function; 631 words, 368 bytes of stack, profile 1
+# ghash_block_products: made by factc 1.0.0 function; 620 words, 368 bytes of stack, profile 1
     .option push
     .option norvc
     .option norelax
@@ -71,19 +71,8 @@ ghash_block_products:
     .word 0xfe7298e3  # bne x5, x7, -16
     # the body
     .word 0x00000513  # addi x10, x0, 0
-    .word 0x00000593  # addi x11, x0, 0
     .word 0x00000613  # addi x12, x0, 0
-    .word 0x00000693  # addi x13, x0, 0
-    .word 0x00000713  # addi x14, x0, 0
-    .word 0x00000793  # addi x15, x0, 0
-    .word 0x00000813  # addi x16, x0, 0
-    .word 0x00000893  # addi x17, x0, 0
-    .word 0x00000913  # addi x18, x0, 0
-    .word 0x00000993  # addi x19, x0, 0
-    .word 0x00000a13  # addi x20, x0, 0
     .word 0x00000a93  # addi x21, x0, 0
-    .word 0x00000b13  # addi x22, x0, 0
-    .word 0x00258d33  # add x26, x11, x2
     .word 0x002a9d93  # slli x27, x21, 2
     .word 0x002d8db3  # add x27, x27, x2
     .word 0x000102b7  # lui x5, 0x00010
@@ -621,11 +610,11 @@ ghash_block_products:
     # the result
     .word 0x00000513  # addi x10, x0, 0
     # parameter 2: the array, back
-    .word 0x16c12283  # lw x5, 364(x2)
-    .word 0x02010313  # addi x6, x2, 32
+    .word 0x02010293  # addi x5, x2, 32
+    .word 0x16c12303  # lw x6, 364(x2)
     .word 0x01028393  # addi x7, x5, 16
-    .word 0x00034e03  # lbu x28, 0(x6)
-    .word 0x01c28023  # sb x28, 0(x5)
+    .word 0x0002ce03  # lbu x28, 0(x5)
+    .word 0x01c30023  # sb x28, 0(x6)
     .word 0x00128293  # addi x5, x5, 1
     .word 0x00130313  # addi x6, x6, 1
     .word 0xfe7298e3  # bne x5, x7, -16

@@ -1,4 +1,4 @@
-# ghash_blocks: made by factc 1.0.0 function; 771 words, 656 bytes of stack, profile 1
+# ghash_blocks: made by factc 1.0.0 function; 758 words, 656 bytes of stack, profile 1
     .option push
     .option norvc
     .option norelax
@@ -75,21 +75,8 @@ ghash_blocks:
     .word 0x00130313  # addi x6, x6, 1
     .word 0xfe7298e3  # bne x5, x7, -16
     # the body
-    .word 0x00000593  # addi x11, x0, 0
     .word 0x00000613  # addi x12, x0, 0
     .word 0x00000693  # addi x13, x0, 0
-    .word 0x00000713  # addi x14, x0, 0
-    .word 0x00000793  # addi x15, x0, 0
-    .word 0x00000813  # addi x16, x0, 0
-    .word 0x00000893  # addi x17, x0, 0
-    .word 0x00000913  # addi x18, x0, 0
-    .word 0x00000993  # addi x19, x0, 0
-    .word 0x00000a13  # addi x20, x0, 0
-    .word 0x00000a93  # addi x21, x0, 0
-    .word 0x00000b13  # addi x22, x0, 0
-    .word 0x00000b93  # addi x23, x0, 0
-    .word 0x00000c13  # addi x24, x0, 0
-    .word 0x00000c93  # addi x25, x0, 0
     .word 0x00000d13  # addi x26, x0, 0
     .word 0x002d1d93  # slli x27, x26, 2
     .word 0x002d8db3  # add x27, x27, x2
@@ -762,11 +749,11 @@ ghash_blocks:
     # the result
     .word 0x00000513  # addi x10, x0, 0
     # parameter 3: the array, back
-    .word 0x28c12283  # lw x5, 652(x2)
-    .word 0x11410313  # addi x6, x2, 276
+    .word 0x11410293  # addi x5, x2, 276
+    .word 0x28c12303  # lw x6, 652(x2)
     .word 0x01028393  # addi x7, x5, 16
-    .word 0x00034e03  # lbu x28, 0(x6)
-    .word 0x01c28023  # sb x28, 0(x5)
+    .word 0x0002ce03  # lbu x28, 0(x5)
+    .word 0x01c30023  # sb x28, 0(x6)
     .word 0x00128293  # addi x5, x5, 1
     .word 0x00130313  # addi x6, x6, 1
     .word 0xfe7298e3  # bne x5, x7, -16

@@ -1,4 +1,4 @@
-# hex_decode: made by factc 1.0.0 function; 100 words, 128 bytes of stack, profile 1
+# hex_decode: made by factc 1.0.0 function; 96 words, 128 bytes of stack, profile 1
     .option push
     .option norvc
     .option norelax
@@ -41,10 +41,6 @@ hex_decode:
     .word 0xfe7298e3  # bne x5, x7, -16
     # the body
     .word 0x00000613  # addi x12, x0, 0
-    .word 0x00000693  # addi x13, x0, 0
-    .word 0x00000713  # addi x14, x0, 0
-    .word 0x00000793  # addi x15, x0, 0
-    .word 0x00000813  # addi x16, x0, 0
     .word 0x002608b3  # add x17, x12, x2
     .word 0x00100513  # addi x10, x0, 1
     .word 0x00000593  # addi x11, x0, 0
@@ -89,11 +85,11 @@ hex_decode:
     # the result
     .word 0x06012503  # lw x10, 96(x2)
     # parameter 1: the array, back
-    .word 0x07c12283  # lw x5, 124(x2)
-    .word 0x04010313  # addi x6, x2, 64
+    .word 0x04010293  # addi x5, x2, 64
+    .word 0x07c12303  # lw x6, 124(x2)
     .word 0x02028393  # addi x7, x5, 32
-    .word 0x00034e03  # lbu x28, 0(x6)
-    .word 0x01c28023  # sb x28, 0(x5)
+    .word 0x0002ce03  # lbu x28, 0(x5)
+    .word 0x01c30023  # sb x28, 0(x6)
     .word 0x00128293  # addi x5, x5, 1
     .word 0x00130313  # addi x6, x6, 1
     .word 0xfe7298e3  # bne x5, x7, -16

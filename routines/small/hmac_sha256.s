@@ -1,4 +1,4 @@
-# hmac_sha256: made by factc 1.0.0 function; 1156 words, 976 bytes of stack, profile 1
+# hmac_sha256: made by factc 1.0.0 function; 1142 words, 976 bytes of stack, profile 1
     .option push
     .option norvc
     .option norelax
@@ -86,22 +86,8 @@ hmac_sha256:
     .word 0x00130313  # addi x6, x6, 1
     .word 0xfe7298e3  # bne x5, x7, -16
     # the body
-    .word 0x00000593  # addi x11, x0, 0
-    .word 0x00000613  # addi x12, x0, 0
-    .word 0x00000693  # addi x13, x0, 0
-    .word 0x00000713  # addi x14, x0, 0
-    .word 0x00000793  # addi x15, x0, 0
-    .word 0x00000813  # addi x16, x0, 0
-    .word 0x00000893  # addi x17, x0, 0
-    .word 0x00000913  # addi x18, x0, 0
-    .word 0x00000993  # addi x19, x0, 0
-    .word 0x00000a13  # addi x20, x0, 0
     .word 0x00000a93  # addi x21, x0, 0
-    .word 0x00000b13  # addi x22, x0, 0
     .word 0x00000c13  # addi x24, x0, 0
-    .word 0x00000c93  # addi x25, x0, 0
-    .word 0x002b1d13  # slli x26, x22, 2
-    .word 0x002d0d33  # add x26, x26, x2
     .word 0x800002b7  # lui x5, 0x80000
     .word 0x00028293  # addi x5, x5, 0
     .word 0x32512c23  # sw x5, 824(x2)
@@ -1152,11 +1138,11 @@ hmac_sha256:
     # the result
     .word 0x00000513  # addi x10, x0, 0
     # parameter 4: the array, back
-    .word 0x3cc12283  # lw x5, 972(x2)
-    .word 0x0c010313  # addi x6, x2, 192
+    .word 0x0c010293  # addi x5, x2, 192
+    .word 0x3cc12303  # lw x6, 972(x2)
     .word 0x02028393  # addi x7, x5, 32
-    .word 0x00034e03  # lbu x28, 0(x6)
-    .word 0x01c28023  # sb x28, 0(x5)
+    .word 0x0002ce03  # lbu x28, 0(x5)
+    .word 0x01c30023  # sb x28, 0(x6)
     .word 0x00128293  # addi x5, x5, 1
     .word 0x00130313  # addi x6, x6, 1
     .word 0xfe7298e3  # bne x5, x7, -16

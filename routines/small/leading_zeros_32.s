@@ -1,4 +1,4 @@
-# leading_zeros_32: made by factc 1.0.0 function; 67 words, 32 bytes of stack, profile 1
+# leading_zeros_32: made by factc 1.0.0 function; 62 words, 16 bytes of stack, profile 1
     .option push
     .option norvc
     .option norelax
@@ -10,54 +10,49 @@
 leading_zeros_32:
     .cfi_startproc
     # room above the frame
-    .word 0xff010113  # addi x2, x2, -16
-    .cfi_def_cfa_offset 16
+    .cfi_def_cfa_offset 0
     # the caller's registers
-    .word 0x00812023  # sw x8, 0(x2)
-    .cfi_offset 8, -16
-    .word 0x00912223  # sw x9, 4(x2)
-    .cfi_offset 9, -12
     # arguments that are needed behind the body
     # the frame's base
     .word 0xff010113  # addi x2, x2, -16
-    .cfi_def_cfa 2, 32
+    .cfi_def_cfa 2, 16
     # parameter 0: a word
     .word 0x00a12023  # sw x10, 0(x2)
     # the body
-    .word 0x00012403  # lw x8, 0(x2)
-    .word 0x00145313  # srli x6, x8, 1
-    .word 0x006464b3  # or x9, x8, x6
-    .word 0x0024d313  # srli x6, x9, 2
-    .word 0x0064e4b3  # or x9, x9, x6
-    .word 0x0044d313  # srli x6, x9, 4
-    .word 0x0064e4b3  # or x9, x9, x6
-    .word 0x0084d313  # srli x6, x9, 8
-    .word 0x0064e4b3  # or x9, x9, x6
-    .word 0x0104d313  # srli x6, x9, 16
-    .word 0x0064e4b3  # or x9, x9, x6
-    .word 0xfff4c493  # xori x9, x9, -1
-    .word 0x0014d313  # srli x6, x9, 1
+    .word 0x00012503  # lw x10, 0(x2)
+    .word 0x00155313  # srli x6, x10, 1
+    .word 0x006565b3  # or x11, x10, x6
+    .word 0x0025d313  # srli x6, x11, 2
+    .word 0x0065e5b3  # or x11, x11, x6
+    .word 0x0045d313  # srli x6, x11, 4
+    .word 0x0065e5b3  # or x11, x11, x6
+    .word 0x0085d313  # srli x6, x11, 8
+    .word 0x0065e5b3  # or x11, x11, x6
+    .word 0x0105d313  # srli x6, x11, 16
+    .word 0x0065e5b3  # or x11, x11, x6
+    .word 0xfff5c593  # xori x11, x11, -1
+    .word 0x0015d313  # srli x6, x11, 1
     .word 0x555553b7  # lui x7, 0x55555
     .word 0x55538393  # addi x7, x7, 1365
     .word 0x00737333  # and x6, x6, x7
-    .word 0x406484b3  # sub x9, x9, x6
+    .word 0x406585b3  # sub x11, x11, x6
     .word 0x33333337  # lui x6, 0x33333
     .word 0x33330313  # addi x6, x6, 819
-    .word 0x0064f2b3  # and x5, x9, x6
-    .word 0x0024d313  # srli x6, x9, 2
+    .word 0x0065f2b3  # and x5, x11, x6
+    .word 0x0025d313  # srli x6, x11, 2
     .word 0x333333b7  # lui x7, 0x33333
     .word 0x33338393  # addi x7, x7, 819
     .word 0x00737333  # and x6, x6, x7
-    .word 0x006284b3  # add x9, x5, x6
-    .word 0x0044d313  # srli x6, x9, 4
-    .word 0x006482b3  # add x5, x9, x6
+    .word 0x006285b3  # add x11, x5, x6
+    .word 0x0045d313  # srli x6, x11, 4
+    .word 0x006582b3  # add x5, x11, x6
     .word 0x0f0f1337  # lui x6, 0x0f0f1
     .word 0xf0f30313  # addi x6, x6, -241
-    .word 0x0062f4b3  # and x9, x5, x6
-    .word 0x0084d313  # srli x6, x9, 8
-    .word 0x006484b3  # add x9, x9, x6
-    .word 0x0104d313  # srli x6, x9, 16
-    .word 0x006482b3  # add x5, x9, x6
+    .word 0x0062f5b3  # and x11, x5, x6
+    .word 0x0085d313  # srli x6, x11, 8
+    .word 0x006585b3  # add x11, x11, x6
+    .word 0x0105d313  # srli x6, x11, 16
+    .word 0x006582b3  # add x5, x11, x6
     .word 0x03f2f293  # andi x5, x5, 63
     .word 0x00512223  # sw x5, 4(x2)
     # the result
@@ -65,12 +60,8 @@ leading_zeros_32:
     # above the frame
     .word 0x01010293  # addi x5, x2, 16
     # the caller's registers
-    .word 0x0002a403  # lw x8, 0(x5)
-    .cfi_restore 8
-    .word 0x0042a483  # lw x9, 4(x5)
-    .cfi_restore 9
     # the caller's x2
-    .word 0x01028293  # addi x5, x5, 16
+    .word 0x00028293  # addi x5, x5, 0
     .cfi_def_cfa 5, 0
     # all the room, wiped upward
     .word 0x00012023  # sw x0, 0(x2)

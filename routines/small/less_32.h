@@ -6,7 +6,7 @@
 #define FACT_less_32_H
 #include <stdbool.h>
 #include <stdint.h>
-#define less_32_STACK_BYTES 112
+#define less_32_STACK_BYTES 96
 #ifdef __cplusplus
 extern "C" {
 #endif

@@ -1,4 +1,4 @@
-# less_32: made by factc 1.0.0 function; 78 words, 112 bytes of stack, profile 1
+# less_32: made by factc 1.0.0 function; 73 words, 96 bytes of stack, profile 1
     .option push
     .option norvc
     .option norelax
@@ -10,15 +10,12 @@
 less_32:
     .cfi_startproc
     # room above the frame
-    .word 0xff010113  # addi x2, x2, -16
-    .cfi_def_cfa_offset 16
+    .cfi_def_cfa_offset 0
     # the caller's registers
-    .word 0x00912023  # sw x9, 0(x2)
-    .cfi_offset 9, -16
     # arguments that are needed behind the body
     # the frame's base
     .word 0xfa010113  # addi x2, x2, -96
-    .cfi_def_cfa 2, 112
+    .cfi_def_cfa 2, 96
     # parameter 0: an array
     .word 0x00050293  # addi x5, x10, 0
     .word 0x00010313  # addi x6, x2, 0
@@ -38,38 +35,36 @@ less_32:
     .word 0x00130313  # addi x6, x6, 1
     .word 0xfe7298e3  # bne x5, x7, -16
     # the body
+    .word 0x00000593  # addi x11, x0, 0
+    .word 0x00000693  # addi x13, x0, 0
     .word 0x00000513  # addi x10, x0, 0
     .word 0x00000593  # addi x11, x0, 0
-    .word 0x00000613  # addi x12, x0, 0
-    .word 0x00000493  # addi x9, x0, 0
-    .word 0x00000513  # addi x10, x0, 0
     .word 0x01800293  # addi x5, x0, 24
-    .word 0x00351313  # slli x6, x10, 3
-    .word 0x406282b3  # sub x5, x5, x6
-    .word 0x0182f593  # andi x11, x5, 24
-    .word 0x00000613  # addi x12, x0, 0
+    .word 0x00359313  # slli x6, x11, 3
+    .word 0x40628633  # sub x12, x5, x6
+    .word 0x00000693  # addi x13, x0, 0
     .word 0x00700313  # addi x6, x0, 7
-    .word 0x40c30333  # sub x6, x6, x12
-    .word 0x006582b3  # add x5, x11, x6
+    .word 0x40d30333  # sub x6, x6, x13
+    .word 0x006602b3  # add x5, x12, x6
     .word 0x002282b3  # add x5, x5, x2
     .word 0x0002c283  # lbu x5, 0(x5)
     .word 0x00700393  # addi x7, x0, 7
-    .word 0x40c383b3  # sub x7, x7, x12
-    .word 0x00758333  # add x6, x11, x7
+    .word 0x40d383b3  # sub x7, x7, x13
+    .word 0x00760333  # add x6, x12, x7
     .word 0x00230333  # add x6, x6, x2
     .word 0x02034303  # lbu x6, 32(x6)
     .word 0x406282b3  # sub x5, x5, x6
-    .word 0x409282b3  # sub x5, x5, x9
-    .word 0x01f2d493  # srli x9, x5, 31
-    .word 0x00160613  # addi x12, x12, 1
-    .word 0x00863293  # sltiu x5, x12, 8
+    .word 0x40a282b3  # sub x5, x5, x10
+    .word 0x01f2d513  # srli x10, x5, 31
+    .word 0x00168693  # addi x13, x13, 1
+    .word 0x0086b293  # sltiu x5, x13, 8
     .word 0xfc0292e3  # bne x5, x0, -60
-    .word 0xfff60613  # addi x12, x12, -1
-    .word 0x00150513  # addi x10, x10, 1
-    .word 0x00453293  # sltiu x5, x10, 4
-    .word 0xfa0290e3  # bne x5, x0, -96
-    .word 0xfff50513  # addi x10, x10, -1
-    .word 0xfff48293  # addi x5, x9, -1
+    .word 0xfff68693  # addi x13, x13, -1
+    .word 0x00158593  # addi x11, x11, 1
+    .word 0x0045b293  # sltiu x5, x11, 4
+    .word 0xfa0292e3  # bne x5, x0, -92
+    .word 0xfff58593  # addi x11, x11, -1
+    .word 0xfff50293  # addi x5, x10, -1
     .word 0x0012b293  # sltiu x5, x5, 1
     .word 0x04512023  # sw x5, 64(x2)
     # the result
@@ -77,10 +72,8 @@ less_32:
     # above the frame
     .word 0x06010293  # addi x5, x2, 96
     # the caller's registers
-    .word 0x0002a483  # lw x9, 0(x5)
-    .cfi_restore 9
     # the caller's x2
-    .word 0x01028293  # addi x5, x5, 16
+    .word 0x00028293  # addi x5, x5, 0
     .cfi_def_cfa 5, 0
     # all the room, wiped upward
     .word 0x00012023  # sw x0, 0(x2)

@@ -1,4 +1,4 @@
-# lookup_256: made by factc 1.0.0 function; 65 words, 288 bytes of stack, profile 1
+# lookup_256: made by factc 1.0.0 function; 61 words, 272 bytes of stack, profile 1
     .option push
     .option norvc
     .option norelax
@@ -10,15 +10,12 @@
 lookup_256:
     .cfi_startproc
     # room above the frame
-    .word 0xff010113  # addi x2, x2, -16
-    .cfi_def_cfa_offset 16
+    .cfi_def_cfa_offset 0
     # the caller's registers
-    .word 0x00912023  # sw x9, 0(x2)
-    .cfi_offset 9, -16
     # arguments that are needed behind the body
     # the frame's base
     .word 0xef010113  # addi x2, x2, -272
-    .cfi_def_cfa 2, 288
+    .cfi_def_cfa 2, 272
     # parameter 0: a word
     .word 0x0ff57513  # andi x10, x10, 255
     .word 0x00a12023  # sw x10, 0(x2)
@@ -32,42 +29,39 @@ lookup_256:
     .word 0x00130313  # addi x6, x6, 1
     .word 0xfe7298e3  # bne x5, x7, -16
     # the body
-    .word 0x00012483  # lw x9, 0(x2)
+    .word 0x00012503  # lw x10, 0(x2)
+    .word 0x00000693  # addi x13, x0, 0
+    .word 0x00050593  # addi x11, x10, 0
     .word 0x00000613  # addi x12, x0, 0
     .word 0x00000693  # addi x13, x0, 0
-    .word 0x00048513  # addi x10, x9, 0
-    .word 0x00000593  # addi x11, x0, 0
-    .word 0x00000613  # addi x12, x0, 0
-    .word 0x08060693  # addi x13, x12, 128
-    .word 0x00260333  # add x6, x12, x2
-    .word 0x00434303  # lbu x6, 4(x6)
-    .word 0x00c543b3  # xor x7, x10, x12
-    .word 0xfff38393  # addi x7, x7, -1
-    .word 0x0083d393  # srli x7, x7, 8
-    .word 0x00737333  # and x6, x6, x7
-    .word 0x0065e5b3  # or x11, x11, x6
+    .word 0x08068713  # addi x14, x13, 128
     .word 0x00268333  # add x6, x13, x2
     .word 0x00434303  # lbu x6, 4(x6)
-    .word 0x00d543b3  # xor x7, x10, x13
+    .word 0x00d5c3b3  # xor x7, x11, x13
     .word 0xfff38393  # addi x7, x7, -1
     .word 0x0083d393  # srli x7, x7, 8
     .word 0x00737333  # and x6, x6, x7
-    .word 0x0065e5b3  # or x11, x11, x6
-    .word 0x00160613  # addi x12, x12, 1
-    .word 0x08063293  # sltiu x5, x12, 128
+    .word 0x00666633  # or x12, x12, x6
+    .word 0x00270333  # add x6, x14, x2
+    .word 0x00434303  # lbu x6, 4(x6)
+    .word 0x00e5c3b3  # xor x7, x11, x14
+    .word 0xfff38393  # addi x7, x7, -1
+    .word 0x0083d393  # srli x7, x7, 8
+    .word 0x00737333  # and x6, x6, x7
+    .word 0x00666633  # or x12, x12, x6
+    .word 0x00168693  # addi x13, x13, 1
+    .word 0x0806b293  # sltiu x5, x13, 128
     .word 0xfa029ee3  # bne x5, x0, -68
-    .word 0xfff60613  # addi x12, x12, -1
-    .word 0x0ff5f293  # andi x5, x11, 255
+    .word 0xfff68693  # addi x13, x13, -1
+    .word 0x0ff67293  # andi x5, x12, 255
     .word 0x10512223  # sw x5, 260(x2)
     # the result
     .word 0x10412503  # lw x10, 260(x2)
     # above the frame
     .word 0x11010293  # addi x5, x2, 272
     # the caller's registers
-    .word 0x0002a483  # lw x9, 0(x5)
-    .cfi_restore 9
     # the caller's x2
-    .word 0x01028293  # addi x5, x5, 16
+    .word 0x00028293  # addi x5, x5, 0
     .cfi_def_cfa 5, 0
     # all the room, wiped upward
     .word 0x00012023  # sw x0, 0(x2)

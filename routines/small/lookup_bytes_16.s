@@ -1,4 +1,4 @@
-# lookup_bytes_16: made by factc 1.0.0 function; 88 words, 320 bytes of stack, profile 1
+# lookup_bytes_16: made by factc 1.0.0 function; 84 words, 320 bytes of stack, profile 1
     .option push
     .option norvc
     .option norelax
@@ -13,8 +13,6 @@ lookup_bytes_16:
     .word 0xff010113  # addi x2, x2, -16
     .cfi_def_cfa_offset 16
     # the caller's registers
-    .word 0x00912023  # sw x9, 0(x2)
-    .cfi_offset 9, -16
     # arguments that are needed behind the body
     .word 0x00a12223  # sw x10, 4(x2)
     .word 0x00b12423  # sw x11, 8(x2)
@@ -35,61 +33,57 @@ lookup_bytes_16:
     .word 0x00130313  # addi x6, x6, 1
     .word 0xfe7298e3  # bne x5, x7, -16
     # the body
-    .word 0x00012483  # lw x9, 0(x2)
-    .word 0x00000513  # addi x10, x0, 0
+    .word 0x00012503  # lw x10, 0(x2)
     .word 0x00000593  # addi x11, x0, 0
     .word 0x00000613  # addi x12, x0, 0
-    .word 0x00000693  # addi x13, x0, 0
-    .word 0x00000713  # addi x14, x0, 0
-    .word 0x002707b3  # add x15, x14, x2
-    .word 0x00000513  # addi x10, x0, 0
-    .word 0x00000313  # addi x6, x0, 0
-    .word 0x002502b3  # add x5, x10, x2
-    .word 0x10628223  # sb x6, 260(x5)
-    .word 0x00150513  # addi x10, x10, 1
-    .word 0x01053293  # sltiu x5, x10, 16
-    .word 0xfe0296e3  # bne x5, x0, -20
-    .word 0xfff50513  # addi x10, x10, -1
+    .word 0x00000793  # addi x15, x0, 0
+    .word 0x00278833  # add x16, x15, x2
     .word 0x00000593  # addi x11, x0, 0
-    .word 0x00459613  # slli x12, x11, 4
-    .word 0x409582b3  # sub x5, x11, x9
-    .word 0x0012b293  # sltiu x5, x5, 1
-    .word 0x405006b3  # sub x13, x0, x5
-    .word 0x00000713  # addi x14, x0, 0
-    .word 0x002707b3  # add x15, x14, x2
-    .word 0x1047c283  # lbu x5, 260(x15)
-    .word 0x00e60333  # add x6, x12, x14
-    .word 0x00230333  # add x6, x6, x2
-    .word 0x00434303  # lbu x6, 4(x6)
-    .word 0x00d37333  # and x6, x6, x13
-    .word 0x0062e2b3  # or x5, x5, x6
-    .word 0x10578223  # sb x5, 260(x15)
-    .word 0x00170713  # addi x14, x14, 1
-    .word 0x002707b3  # add x15, x14, x2
-    .word 0x01073293  # sltiu x5, x14, 16
-    .word 0xfc029ce3  # bne x5, x0, -40
-    .word 0xfff70713  # addi x14, x14, -1
-    .word 0x002707b3  # add x15, x14, x2
+    .word 0x00000313  # addi x6, x0, 0
+    .word 0x002582b3  # add x5, x11, x2
+    .word 0x10628223  # sb x6, 260(x5)
     .word 0x00158593  # addi x11, x11, 1
     .word 0x0105b293  # sltiu x5, x11, 16
-    .word 0xfa0296e3  # bne x5, x0, -84
+    .word 0xfe0296e3  # bne x5, x0, -20
     .word 0xfff58593  # addi x11, x11, -1
+    .word 0x00000613  # addi x12, x0, 0
+    .word 0x00461693  # slli x13, x12, 4
+    .word 0x40a602b3  # sub x5, x12, x10
+    .word 0x0012b293  # sltiu x5, x5, 1
+    .word 0x40500733  # sub x14, x0, x5
+    .word 0x00000793  # addi x15, x0, 0
+    .word 0x00278833  # add x16, x15, x2
+    .word 0x10484283  # lbu x5, 260(x16)
+    .word 0x00f68333  # add x6, x13, x15
+    .word 0x00230333  # add x6, x6, x2
+    .word 0x00434303  # lbu x6, 4(x6)
+    .word 0x00e37333  # and x6, x6, x14
+    .word 0x0062e2b3  # or x5, x5, x6
+    .word 0x10580223  # sb x5, 260(x16)
+    .word 0x00178793  # addi x15, x15, 1
+    .word 0x00278833  # add x16, x15, x2
+    .word 0x0107b293  # sltiu x5, x15, 16
+    .word 0xfc029ce3  # bne x5, x0, -40
+    .word 0xfff78793  # addi x15, x15, -1
+    .word 0x00278833  # add x16, x15, x2
+    .word 0x00160613  # addi x12, x12, 1
+    .word 0x01063293  # sltiu x5, x12, 16
+    .word 0xfa0296e3  # bne x5, x0, -84
+    .word 0xfff60613  # addi x12, x12, -1
     # the result
     .word 0x00000513  # addi x10, x0, 0
     # parameter 2: the array, back
-    .word 0x13c12283  # lw x5, 316(x2)
-    .word 0x10410313  # addi x6, x2, 260
+    .word 0x10410293  # addi x5, x2, 260
+    .word 0x13c12303  # lw x6, 316(x2)
     .word 0x01028393  # addi x7, x5, 16
-    .word 0x00034e03  # lbu x28, 0(x6)
-    .word 0x01c28023  # sb x28, 0(x5)
+    .word 0x0002ce03  # lbu x28, 0(x5)
+    .word 0x01c30023  # sb x28, 0(x6)
     .word 0x00128293  # addi x5, x5, 1
     .word 0x00130313  # addi x6, x6, 1
     .word 0xfe7298e3  # bne x5, x7, -16
     # above the frame
     .word 0x13010293  # addi x5, x2, 304
     # the caller's registers
-    .word 0x0002a483  # lw x9, 0(x5)
-    .cfi_restore 9
     # the caller's x2
     .word 0x01028293  # addi x5, x5, 16
     .cfi_def_cfa 5, 0

@@ -6,7 +6,7 @@
 #define FACT_lookup_words_256_H
 #include <stdbool.h>
 #include <stdint.h>
-#define lookup_words_256_STACK_BYTES 1056
+#define lookup_words_256_STACK_BYTES 1040
 #ifdef __cplusplus
 extern "C" {
 #endif

@@ -1,4 +1,4 @@
-# lookup_words_256: made by factc 1.0.0 function; 55 words, 1056 bytes of stack, profile 1
+# lookup_words_256: made by factc 1.0.0 function; 52 words, 1040 bytes of stack, profile 1
     .option push
     .option norvc
     .option norelax
@@ -10,15 +10,12 @@
 lookup_words_256:
     .cfi_startproc
     # room above the frame
-    .word 0xff010113  # addi x2, x2, -16
-    .cfi_def_cfa_offset 16
+    .cfi_def_cfa_offset 0
     # the caller's registers
-    .word 0x00912023  # sw x9, 0(x2)
-    .cfi_offset 9, -16
     # arguments that are needed behind the body
     # the frame's base
     .word 0xbf010113  # addi x2, x2, -1040
-    .cfi_def_cfa 2, 1056
+    .cfi_def_cfa 2, 1040
     # parameter 0: a word
     .word 0x0ff57513  # andi x10, x10, 255
     .word 0x00a12023  # sw x10, 0(x2)
@@ -32,32 +29,30 @@ lookup_words_256:
     .word 0x00430313  # addi x6, x6, 4
     .word 0xfe7298e3  # bne x5, x7, -16
     # the body
-    .word 0x00012483  # lw x9, 0(x2)
+    .word 0x00012503  # lw x10, 0(x2)
+    .word 0x00000613  # addi x12, x0, 0
     .word 0x00000593  # addi x11, x0, 0
-    .word 0x00000513  # addi x10, x0, 0
-    .word 0x00000593  # addi x11, x0, 0
-    .word 0x00259313  # slli x6, x11, 2
+    .word 0x00000613  # addi x12, x0, 0
+    .word 0x00261313  # slli x6, x12, 2
     .word 0x00230333  # add x6, x6, x2
     .word 0x00432303  # lw x6, 4(x6)
-    .word 0x409583b3  # sub x7, x11, x9
+    .word 0x40a603b3  # sub x7, x12, x10
     .word 0x0013b393  # sltiu x7, x7, 1
     .word 0x407003b3  # sub x7, x0, x7
     .word 0x00737333  # and x6, x6, x7
-    .word 0x00656533  # or x10, x10, x6
-    .word 0x00158593  # addi x11, x11, 1
-    .word 0x1005b293  # sltiu x5, x11, 256
+    .word 0x0065e5b3  # or x11, x11, x6
+    .word 0x00160613  # addi x12, x12, 1
+    .word 0x10063293  # sltiu x5, x12, 256
     .word 0xfc029ce3  # bne x5, x0, -40
-    .word 0xfff58593  # addi x11, x11, -1
-    .word 0x40a12223  # sw x10, 1028(x2)
+    .word 0xfff60613  # addi x12, x12, -1
+    .word 0x40b12223  # sw x11, 1028(x2)
     # the result
     .word 0x40412503  # lw x10, 1028(x2)
     # above the frame
     .word 0x41010293  # addi x5, x2, 1040
     # the caller's registers
-    .word 0x0002a483  # lw x9, 0(x5)
-    .cfi_restore 9
     # the caller's x2
-    .word 0x01028293  # addi x5, x5, 16
+    .word 0x00028293  # addi x5, x5, 0
     .cfi_def_cfa 5, 0
     # all the room, wiped upward
     .word 0x00012023  # sw x0, 0(x2)

@@ -1,4 +1,4 @@
-# md5_block: made by factc 1.0.0 function; 593 words, 448 bytes of stack, profile 1
+# md5_block: made by factc 1.0.0 function; 588 words, 448 bytes of stack, profile 1
     .option push
     .option norvc
     .option norelax
@@ -46,15 +46,10 @@ md5_block:
     .word 0xfe7298e3  # bne x5, x7, -16
     # the body
     .word 0x00000513  # addi x10, x0, 0
-    .word 0x00000593  # addi x11, x0, 0
-    .word 0x00000613  # addi x12, x0, 0
     .word 0x00000793  # addi x15, x0, 0
-    .word 0x00000813  # addi x16, x0, 0
     .word 0x00000893  # addi x17, x0, 0
     .word 0x00000913  # addi x18, x0, 0
     .word 0x00000993  # addi x19, x0, 0
-    .word 0x00281a13  # slli x20, x16, 2
-    .word 0x002a0a33  # add x20, x20, x2
     .word 0x04012823  # sw x0, 80(x2)
     .word 0x04012a23  # sw x0, 84(x2)
     .word 0x04012c23  # sw x0, 88(x2)
@@ -582,11 +577,11 @@ md5_block:
     # the result
     .word 0x00000513  # addi x10, x0, 0
     # parameter 0: the array, back
-    .word 0x1bc12283  # lw x5, 444(x2)
-    .word 0x00010313  # addi x6, x2, 0
+    .word 0x00010293  # addi x5, x2, 0
+    .word 0x1bc12303  # lw x6, 444(x2)
     .word 0x01028393  # addi x7, x5, 16
-    .word 0x00032e03  # lw x28, 0(x6)
-    .word 0x01c2a023  # sw x28, 0(x5)
+    .word 0x0002ae03  # lw x28, 0(x5)
+    .word 0x01c32023  # sw x28, 0(x6)
     .word 0x00428293  # addi x5, x5, 4
     .word 0x00430313  # addi x6, x6, 4
     .word 0xfe7298e3  # bne x5, x7, -16

@@ -1,4 +1,4 @@
-# minimum_maximum_16: made by factc 1.0.0 function; 70 words, 112 bytes of stack, profile 1
+# minimum_maximum_16: made by factc 1.0.0 function; 65 words, 112 bytes of stack, profile 1
     .option push
     .option norvc
     .option norelax
@@ -13,10 +13,6 @@ minimum_maximum_16:
     .word 0xff010113  # addi x2, x2, -16
     .cfi_def_cfa_offset 16
     # the caller's registers
-    .word 0x00812023  # sw x8, 0(x2)
-    .cfi_offset 8, -16
-    .word 0x00912223  # sw x9, 4(x2)
-    .cfi_offset 9, -12
     # arguments that are needed behind the body
     .word 0x00a12423  # sw x10, 8(x2)
     .word 0x00b12623  # sw x11, 12(x2)
@@ -33,46 +29,41 @@ minimum_maximum_16:
     .word 0x00430313  # addi x6, x6, 4
     .word 0xfe7298e3  # bne x5, x7, -16
     # the body
-    .word 0x00000513  # addi x10, x0, 0
-    .word 0x00000593  # addi x11, x0, 0
-    .word 0x00012403  # lw x8, 0(x2)
-    .word 0x00040493  # addi x9, x8, 0
-    .word 0x00000513  # addi x10, x0, 0
-    .word 0x00251593  # slli x11, x10, 2
-    .word 0x002585b3  # add x11, x11, x2
-    .word 0x0005a583  # lw x11, 0(x11)
-    .word 0x0085b2b3  # sltu x5, x11, x8
+    .word 0x00000613  # addi x12, x0, 0
+    .word 0x00012503  # lw x10, 0(x2)
+    .word 0x00050593  # addi x11, x10, 0
+    .word 0x00000613  # addi x12, x0, 0
+    .word 0x00261693  # slli x13, x12, 2
+    .word 0x002686b3  # add x13, x13, x2
+    .word 0x0006a683  # lw x13, 0(x13)
+    .word 0x00a6b2b3  # sltu x5, x13, x10
     .word 0x405002b3  # sub x5, x0, x5
-    .word 0x0085c333  # xor x6, x11, x8
+    .word 0x00a6c333  # xor x6, x13, x10
     .word 0x00537333  # and x6, x6, x5
-    .word 0x00644433  # xor x8, x8, x6
-    .word 0x00b4b2b3  # sltu x5, x9, x11
+    .word 0x00654533  # xor x10, x10, x6
+    .word 0x00d5b2b3  # sltu x5, x11, x13
     .word 0x405002b3  # sub x5, x0, x5
-    .word 0x0095c333  # xor x6, x11, x9
+    .word 0x00b6c333  # xor x6, x13, x11
     .word 0x00537333  # and x6, x6, x5
-    .word 0x0064c4b3  # xor x9, x9, x6
-    .word 0x00150513  # addi x10, x10, 1
-    .word 0x01053293  # sltiu x5, x10, 16
+    .word 0x0065c5b3  # xor x11, x11, x6
+    .word 0x00160613  # addi x12, x12, 1
+    .word 0x01063293  # sltiu x5, x12, 16
     .word 0xfc0292e3  # bne x5, x0, -60
-    .word 0xfff50513  # addi x10, x10, -1
-    .word 0x04812023  # sw x8, 64(x2)
-    .word 0x04912223  # sw x9, 68(x2)
+    .word 0xfff60613  # addi x12, x12, -1
+    .word 0x04a12023  # sw x10, 64(x2)
+    .word 0x04b12223  # sw x11, 68(x2)
     # the result
     .word 0x00000513  # addi x10, x0, 0
     # parameter 1: the array, back
-    .word 0x06c12283  # lw x5, 108(x2)
-    .word 0x04010313  # addi x6, x2, 64
-    .word 0x00032e03  # lw x28, 0(x6)
-    .word 0x01c2a023  # sw x28, 0(x5)
-    .word 0x00432e03  # lw x28, 4(x6)
-    .word 0x01c2a223  # sw x28, 4(x5)
+    .word 0x04010293  # addi x5, x2, 64
+    .word 0x06c12303  # lw x6, 108(x2)
+    .word 0x0002ae03  # lw x28, 0(x5)
+    .word 0x01c32023  # sw x28, 0(x6)
+    .word 0x0042ae03  # lw x28, 4(x5)
+    .word 0x01c32223  # sw x28, 4(x6)
     # above the frame
     .word 0x06010293  # addi x5, x2, 96
     # the caller's registers
-    .word 0x0002a403  # lw x8, 0(x5)
-    .cfi_restore 8
-    .word 0x0042a483  # lw x9, 4(x5)
-    .cfi_restore 9
     # the caller's x2
     .word 0x01028293  # addi x5, x5, 16
     .cfi_def_cfa 5, 0

@@ -1,4 +1,4 @@
-# mlkem_compress: made by factc 1.0.0 function; 78 words, 544 bytes of stack, profile 1
+# mlkem_compress: made by factc 1.0.0 function; 73 words, 544 bytes of stack, profile 1
     .option push
     .option norvc
     .option norelax
@@ -13,10 +13,6 @@ mlkem_compress:
     .word 0xff010113  # addi x2, x2, -16
     .cfi_def_cfa_offset 16
     # the caller's registers
-    .word 0x00812023  # sw x8, 0(x2)
-    .cfi_offset 8, -16
-    .word 0x00912223  # sw x9, 4(x2)
-    .cfi_offset 9, -12
     # arguments that are needed behind the body
     .word 0x00a12623  # sw x10, 12(x2)
     # the frame's base
@@ -34,54 +30,49 @@ mlkem_compress:
     # parameter 1: a word
     .word 0x20b12023  # sw x11, 512(x2)
     # the body
-    .word 0x20012403  # lw x8, 512(x2)
-    .word 0x00000593  # addi x11, x0, 0
-    .word 0x00000613  # addi x12, x0, 0
-    .word 0x00159713  # slli x14, x11, 1
-    .word 0x00270733  # add x14, x14, x2
-    .word 0x9d7dc6b7  # lui x13, 0x9d7dc
-    .word 0xb4168693  # addi x13, x13, -1215
+    .word 0x20012503  # lw x10, 512(x2)
+    .word 0x00000693  # addi x13, x0, 0
+    .word 0x00169813  # slli x16, x13, 1
+    .word 0x00280833  # add x16, x16, x2
+    .word 0x9d7dc7b7  # lui x15, 0x9d7dc
+    .word 0xb4178793  # addi x15, x15, -1215
     .word 0x00c00313  # addi x6, x0, 12
-    .word 0x026474b3  # remu x9, x8, x6
+    .word 0x026575b3  # remu x11, x10, x6
     .word 0x00100293  # addi x5, x0, 1
-    .word 0x009292b3  # sll x5, x5, x9
-    .word 0xfff28513  # addi x10, x5, -1
-    .word 0x00000593  # addi x11, x0, 0
-    .word 0x00159713  # slli x14, x11, 1
-    .word 0x00270733  # add x14, x14, x2
-    .word 0x00075283  # lhu x5, 0(x14)
-    .word 0x009292b3  # sll x5, x5, x9
-    .word 0x68028613  # addi x12, x5, 1664
-    .word 0x02d63633  # mulhu x12, x12, x13
-    .word 0x00b65293  # srli x5, x12, 11
-    .word 0x00a2f2b3  # and x5, x5, x10
-    .word 0x00571023  # sh x5, 0(x14)
-    .word 0x00158593  # addi x11, x11, 1
-    .word 0x00159713  # slli x14, x11, 1
-    .word 0x00270733  # add x14, x14, x2
-    .word 0x1005b293  # sltiu x5, x11, 256
+    .word 0x00b292b3  # sll x5, x5, x11
+    .word 0xfff28613  # addi x12, x5, -1
+    .word 0x00000693  # addi x13, x0, 0
+    .word 0x00169813  # slli x16, x13, 1
+    .word 0x00280833  # add x16, x16, x2
+    .word 0x00085283  # lhu x5, 0(x16)
+    .word 0x00b292b3  # sll x5, x5, x11
+    .word 0x68028713  # addi x14, x5, 1664
+    .word 0x02f73733  # mulhu x14, x14, x15
+    .word 0x00b75293  # srli x5, x14, 11
+    .word 0x00c2f2b3  # and x5, x5, x12
+    .word 0x00581023  # sh x5, 0(x16)
+    .word 0x00168693  # addi x13, x13, 1
+    .word 0x00169813  # slli x16, x13, 1
+    .word 0x00280833  # add x16, x16, x2
+    .word 0x1006b293  # sltiu x5, x13, 256
     .word 0xfc029ae3  # bne x5, x0, -44
-    .word 0xfff58593  # addi x11, x11, -1
-    .word 0x00159713  # slli x14, x11, 1
-    .word 0x00270733  # add x14, x14, x2
+    .word 0xfff68693  # addi x13, x13, -1
+    .word 0x00169813  # slli x16, x13, 1
+    .word 0x00280833  # add x16, x16, x2
     # the result
     .word 0x00000513  # addi x10, x0, 0
     # parameter 0: the array, back
-    .word 0x21c12283  # lw x5, 540(x2)
-    .word 0x00010313  # addi x6, x2, 0
+    .word 0x00010293  # addi x5, x2, 0
+    .word 0x21c12303  # lw x6, 540(x2)
     .word 0x20028393  # addi x7, x5, 512
-    .word 0x00035e03  # lhu x28, 0(x6)
-    .word 0x01c29023  # sh x28, 0(x5)
+    .word 0x0002de03  # lhu x28, 0(x5)
+    .word 0x01c31023  # sh x28, 0(x6)
     .word 0x00228293  # addi x5, x5, 2
     .word 0x00230313  # addi x6, x6, 2
     .word 0xfe7298e3  # bne x5, x7, -16
     # above the frame
     .word 0x21010293  # addi x5, x2, 528
     # the caller's registers
-    .word 0x0002a403  # lw x8, 0(x5)
-    .cfi_restore 8
-    .word 0x0042a483  # lw x9, 4(x5)
-    .cfi_restore 9
     # the caller's x2
     .word 0x01028293  # addi x5, x5, 16
     .cfi_def_cfa 5, 0

@@ -1,4 +1,4 @@
-# mlkem_decompress: made by factc 1.0.0 function; 76 words, 544 bytes of stack, profile 1
+# mlkem_decompress: made by factc 1.0.0 function; 71 words, 544 bytes of stack, profile 1
     .option push
     .option norvc
     .option norelax
@@ -13,10 +13,6 @@ mlkem_decompress:
     .word 0xff010113  # addi x2, x2, -16
     .cfi_def_cfa_offset 16
     # the caller's registers
-    .word 0x00812023  # sw x8, 0(x2)
-    .cfi_offset 8, -16
-    .word 0x00912223  # sw x9, 4(x2)
-    .cfi_offset 9, -12
     # arguments that are needed behind the body
     .word 0x00a12623  # sw x10, 12(x2)
     # the frame's base
@@ -34,52 +30,47 @@ mlkem_decompress:
     # parameter 1: a word
     .word 0x20b12023  # sw x11, 512(x2)
     # the body
-    .word 0x20012403  # lw x8, 512(x2)
-    .word 0x00000613  # addi x12, x0, 0
-    .word 0x00000693  # addi x13, x0, 0
-    .word 0x00161713  # slli x14, x12, 1
-    .word 0x00270733  # add x14, x14, x2
+    .word 0x20012503  # lw x10, 512(x2)
+    .word 0x00000713  # addi x14, x0, 0
+    .word 0x00171813  # slli x16, x14, 1
+    .word 0x00280833  # add x16, x16, x2
     .word 0x00c00313  # addi x6, x0, 12
-    .word 0x026474b3  # remu x9, x8, x6
+    .word 0x026575b3  # remu x11, x10, x6
     .word 0x00100293  # addi x5, x0, 1
-    .word 0x009292b3  # sll x5, x5, x9
-    .word 0x0012d513  # srli x10, x5, 1
-    .word 0x000015b7  # lui x11, 0x00001
-    .word 0xd0158593  # addi x11, x11, -767
-    .word 0x00000613  # addi x12, x0, 0
-    .word 0x00161713  # slli x14, x12, 1
-    .word 0x00270733  # add x14, x14, x2
-    .word 0x00075283  # lhu x5, 0(x14)
-    .word 0x02b282b3  # mul x5, x5, x11
-    .word 0x00a286b3  # add x13, x5, x10
-    .word 0x0096d2b3  # srl x5, x13, x9
-    .word 0x00571023  # sh x5, 0(x14)
-    .word 0x00160613  # addi x12, x12, 1
-    .word 0x00161713  # slli x14, x12, 1
-    .word 0x00270733  # add x14, x14, x2
-    .word 0x10063293  # sltiu x5, x12, 256
+    .word 0x00b292b3  # sll x5, x5, x11
+    .word 0x0012d613  # srli x12, x5, 1
+    .word 0x000016b7  # lui x13, 0x00001
+    .word 0xd0168693  # addi x13, x13, -767
+    .word 0x00000713  # addi x14, x0, 0
+    .word 0x00171813  # slli x16, x14, 1
+    .word 0x00280833  # add x16, x16, x2
+    .word 0x00085283  # lhu x5, 0(x16)
+    .word 0x02d282b3  # mul x5, x5, x13
+    .word 0x00c287b3  # add x15, x5, x12
+    .word 0x00b7d2b3  # srl x5, x15, x11
+    .word 0x00581023  # sh x5, 0(x16)
+    .word 0x00170713  # addi x14, x14, 1
+    .word 0x00171813  # slli x16, x14, 1
+    .word 0x00280833  # add x16, x16, x2
+    .word 0x10073293  # sltiu x5, x14, 256
     .word 0xfc029ee3  # bne x5, x0, -36
-    .word 0xfff60613  # addi x12, x12, -1
-    .word 0x00161713  # slli x14, x12, 1
-    .word 0x00270733  # add x14, x14, x2
+    .word 0xfff70713  # addi x14, x14, -1
+    .word 0x00171813  # slli x16, x14, 1
+    .word 0x00280833  # add x16, x16, x2
     # the result
     .word 0x00000513  # addi x10, x0, 0
     # parameter 0: the array, back
-    .word 0x21c12283  # lw x5, 540(x2)
-    .word 0x00010313  # addi x6, x2, 0
+    .word 0x00010293  # addi x5, x2, 0
+    .word 0x21c12303  # lw x6, 540(x2)
     .word 0x20028393  # addi x7, x5, 512
-    .word 0x00035e03  # lhu x28, 0(x6)
-    .word 0x01c29023  # sh x28, 0(x5)
+    .word 0x0002de03  # lhu x28, 0(x5)
+    .word 0x01c31023  # sh x28, 0(x6)
     .word 0x00228293  # addi x5, x5, 2
     .word 0x00230313  # addi x6, x6, 2
     .word 0xfe7298e3  # bne x5, x7, -16
     # above the frame
     .word 0x21010293  # addi x5, x2, 528
     # the caller's registers
-    .word 0x0002a403  # lw x8, 0(x5)
-    .cfi_restore 8
-    .word 0x0042a483  # lw x9, 4(x5)
-    .cfi_restore 9
     # the caller's x2
     .word 0x01028293  # addi x5, x5, 16
     .cfi_def_cfa 5, 0

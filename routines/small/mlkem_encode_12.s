@@ -1,4 +1,4 @@
-# mlkem_encode_12: made by factc 1.0.0 function; 95 words, 928 bytes of stack, profile 1
+# mlkem_encode_12: made by factc 1.0.0 function; 86 words, 928 bytes of stack, profile 1
     .option push
     .option norvc
     .option norelax
@@ -13,8 +13,8 @@ mlkem_encode_12:
     .word 0xff010113  # addi x2, x2, -16
     .cfi_def_cfa_offset 16
     # the caller's registers
-    .word 0x00912023  # sw x9, 0(x2)
-    .cfi_offset 9, -16
+    .word 0x01212023  # sw x18, 0(x2)
+    .cfi_offset 18, -16
     # arguments that are needed behind the body
     .word 0x00a12423  # sw x10, 8(x2)
     .word 0x00b12623  # sw x11, 12(x2)
@@ -40,63 +40,54 @@ mlkem_encode_12:
     .word 0x00130313  # addi x6, x6, 1
     .word 0xfe7298e3  # bne x5, x7, -16
     # the body
-    .word 0x00000493  # addi x9, x0, 0
     .word 0x00000513  # addi x10, x0, 0
-    .word 0x00000593  # addi x11, x0, 0
-    .word 0x00000613  # addi x12, x0, 0
-    .word 0x00000693  # addi x13, x0, 0
-    .word 0x00000713  # addi x14, x0, 0
-    .word 0x00000793  # addi x15, x0, 0
-    .word 0x00151813  # slli x16, x10, 1
-    .word 0x00280833  # add x16, x16, x2
-    .word 0x002588b3  # add x17, x11, x2
-    .word 0x00000493  # addi x9, x0, 0
-    .word 0x00249513  # slli x10, x9, 2
-    .word 0x00151813  # slli x16, x10, 1
-    .word 0x00280833  # add x16, x16, x2
+    .word 0x00000513  # addi x10, x0, 0
+    .word 0x00251593  # slli x11, x10, 2
+    .word 0x00159893  # slli x17, x11, 1
+    .word 0x002888b3  # add x17, x17, x2
     .word 0x00600293  # addi x5, x0, 6
-    .word 0x029285b3  # mul x11, x5, x9
-    .word 0x002588b3  # add x17, x11, x2
-    .word 0x00085603  # lhu x12, 0(x16)
-    .word 0x00285683  # lhu x13, 2(x16)
-    .word 0x00485703  # lhu x14, 4(x16)
-    .word 0x00685783  # lhu x15, 6(x16)
-    .word 0x20c88023  # sb x12, 512(x17)
-    .word 0x00865293  # srli x5, x12, 8
+    .word 0x02a28633  # mul x12, x5, x10
+    .word 0x00260933  # add x18, x12, x2
+    .word 0x0008d683  # lhu x13, 0(x17)
+    .word 0x0028d703  # lhu x14, 2(x17)
+    .word 0x0048d783  # lhu x15, 4(x17)
+    .word 0x0068d803  # lhu x16, 6(x17)
+    .word 0x20d90023  # sb x13, 512(x18)
+    .word 0x0086d293  # srli x5, x13, 8
     .word 0x00f2f293  # andi x5, x5, 15
-    .word 0x00469313  # slli x6, x13, 4
+    .word 0x00471313  # slli x6, x14, 4
     .word 0x0062e2b3  # or x5, x5, x6
-    .word 0x205880a3  # sb x5, 513(x17)
-    .word 0x0046d293  # srli x5, x13, 4
-    .word 0x20588123  # sb x5, 514(x17)
-    .word 0x20e881a3  # sb x14, 515(x17)
-    .word 0x00875293  # srli x5, x14, 8
+    .word 0x205900a3  # sb x5, 513(x18)
+    .word 0x00475293  # srli x5, x14, 4
+    .word 0x20590123  # sb x5, 514(x18)
+    .word 0x20f901a3  # sb x15, 515(x18)
+    .word 0x0087d293  # srli x5, x15, 8
     .word 0x00f2f293  # andi x5, x5, 15
-    .word 0x00479313  # slli x6, x15, 4
+    .word 0x00481313  # slli x6, x16, 4
     .word 0x0062e2b3  # or x5, x5, x6
-    .word 0x20588223  # sb x5, 516(x17)
-    .word 0x0047d293  # srli x5, x15, 4
-    .word 0x205882a3  # sb x5, 517(x17)
-    .word 0x00148493  # addi x9, x9, 1
-    .word 0x0404b293  # sltiu x5, x9, 64
+    .word 0x20590223  # sb x5, 516(x18)
+    .word 0x00485293  # srli x5, x16, 4
+    .word 0x205902a3  # sb x5, 517(x18)
+    .word 0x00150513  # addi x10, x10, 1
+    .word 0x04053293  # sltiu x5, x10, 64
     .word 0xf80298e3  # bne x5, x0, -112
-    .word 0xfff48493  # addi x9, x9, -1
+    .word 0xfff50513  # addi x10, x10, -1
     # the result
     .word 0x00000513  # addi x10, x0, 0
     # parameter 1: the array, back
-    .word 0x39c12283  # lw x5, 924(x2)
-    .word 0x20010313  # addi x6, x2, 512
+    .word 0x20010293  # addi x5, x2, 512
+    .word 0x39c12303  # lw x6, 924(x2)
     .word 0x18028393  # addi x7, x5, 384
-    .word 0x00034e03  # lbu x28, 0(x6)
-    .word 0x01c28023  # sb x28, 0(x5)
+    .word 0x0002ce03  # lbu x28, 0(x5)
+    .word 0x01c30023  # sb x28, 0(x6)
     .word 0x00128293  # addi x5, x5, 1
     .word 0x00130313  # addi x6, x6, 1
     .word 0xfe7298e3  # bne x5, x7, -16
     # above the frame
     .word 0x39010293  # addi x5, x2, 912
     # the caller's registers
-    .word 0x0002a483  # lw x9, 0(x5)
-    .cfi_restore 9
+    .word 0x0002a903  # lw x18, 0(x5)
+    .cfi_restore 18
     # the caller's x2
     .word 0x01028293  # addi x5, x5, 16
     .cfi_def_cfa 5, 0

@@ -1,4 +1,4 @@
-# mlkem_message: made by factc 1.0.0 function; 81 words, 592 bytes of stack, profile 1
+# mlkem_message: made by factc 1.0.0 function; 75 words, 592 bytes of stack, profile 1
     .option push
     .option norvc
     .option norelax
@@ -13,10 +13,6 @@ mlkem_message:
     .word 0xff010113  # addi x2, x2, -16
     .cfi_def_cfa_offset 16
     # the caller's registers
-    .word 0x00812023  # sw x8, 0(x2)
-    .cfi_offset 8, -16
-    .word 0x00912223  # sw x9, 4(x2)
-    .cfi_offset 9, -12
     # arguments that are needed behind the body
     .word 0x00a12423  # sw x10, 8(x2)
     .word 0x00b12623  # sw x11, 12(x2)
@@ -42,49 +38,43 @@ mlkem_message:
     .word 0x00230313  # addi x6, x6, 2
     .word 0xfe7298e3  # bne x5, x7, -16
     # the body
-    .word 0x00000413  # addi x8, x0, 0
-    .word 0x00000493  # addi x9, x0, 0
     .word 0x00000513  # addi x10, x0, 0
-    .word 0x00000593  # addi x11, x0, 0
-    .word 0x00000413  # addi x8, x0, 0
-    .word 0x00341493  # slli x9, x8, 3
-    .word 0x00240533  # add x10, x8, x2
-    .word 0x00054503  # lbu x10, 0(x10)
-    .word 0x00000593  # addi x11, x0, 0
-    .word 0x00b482b3  # add x5, x9, x11
-    .word 0x00b55333  # srl x6, x10, x11
+    .word 0x00000693  # addi x13, x0, 0
+    .word 0x00000513  # addi x10, x0, 0
+    .word 0x00351593  # slli x11, x10, 3
+    .word 0x00250633  # add x12, x10, x2
+    .word 0x00064603  # lbu x12, 0(x12)
+    .word 0x00000693  # addi x13, x0, 0
+    .word 0x00d582b3  # add x5, x11, x13
+    .word 0x00d65333  # srl x6, x12, x13
     .word 0x00137313  # andi x6, x6, 1
     .word 0x40600333  # sub x6, x0, x6
     .word 0x68137313  # andi x6, x6, 1665
     .word 0x00129293  # slli x5, x5, 1
     .word 0x002282b3  # add x5, x5, x2
     .word 0x02629023  # sh x6, 32(x5)
-    .word 0x00158593  # addi x11, x11, 1
-    .word 0x0085b293  # sltiu x5, x11, 8
+    .word 0x00168693  # addi x13, x13, 1
+    .word 0x0086b293  # sltiu x5, x13, 8
     .word 0xfc029ce3  # bne x5, x0, -40
-    .word 0xfff58593  # addi x11, x11, -1
-    .word 0x00140413  # addi x8, x8, 1
-    .word 0x02043293  # sltiu x5, x8, 32
+    .word 0xfff68693  # addi x13, x13, -1
+    .word 0x00150513  # addi x10, x10, 1
+    .word 0x02053293  # sltiu x5, x10, 32
     .word 0xfa029ce3  # bne x5, x0, -72
-    .word 0xfff40413  # addi x8, x8, -1
+    .word 0xfff50513  # addi x10, x10, -1
     # the result
     .word 0x00000513  # addi x10, x0, 0
     # parameter 1: the array, back
-    .word 0x24c12283  # lw x5, 588(x2)
-    .word 0x02010313  # addi x6, x2, 32
+    .word 0x02010293  # addi x5, x2, 32
+    .word 0x24c12303  # lw x6, 588(x2)
     .word 0x20028393  # addi x7, x5, 512
-    .word 0x00035e03  # lhu x28, 0(x6)
-    .word 0x01c29023  # sh x28, 0(x5)
+    .word 0x0002de03  # lhu x28, 0(x5)
+    .word 0x01c31023  # sh x28, 0(x6)
     .word 0x00228293  # addi x5, x5, 2
     .word 0x00230313  # addi x6, x6, 2
     .word 0xfe7298e3  # bne x5, x7, -16
     # above the frame
     .word 0x24010293  # addi x5, x2, 576
     # the caller's registers
-    .word 0x0002a403  # lw x8, 0(x5)
-    .cfi_restore 8
-    .word 0x0042a483  # lw x9, 4(x5)
-    .cfi_restore 9
     # the caller's x2
     .word 0x01028293  # addi x5, x5, 16
     .cfi_def_cfa 5, 0

@@ -1,4 +1,4 @@
-# mlkem_multiply_ntts: made by factc 1.0.0 function; 294 words, 1856 bytes of stack, profile 1
+# mlkem_multiply_ntts: made by factc 1.0.0 function; 285 words, 1856 bytes of stack, profile 1
     .option push
     .option norvc
     .option norelax
@@ -13,16 +13,16 @@ mlkem_multiply_ntts:
     .word 0xfe010113  # addi x2, x2, -32
     .cfi_def_cfa_offset 32
     # the caller's registers
-    .word 0x00812023  # sw x8, 0(x2)
-    .cfi_offset 8, -32
-    .word 0x00912223  # sw x9, 4(x2)
-    .cfi_offset 9, -28
-    .word 0x01212423  # sw x18, 8(x2)
-    .cfi_offset 18, -24
-    .word 0x01312623  # sw x19, 12(x2)
-    .cfi_offset 19, -20
-    .word 0x01412823  # sw x20, 16(x2)
-    .cfi_offset 20, -16
+    .word 0x01212023  # sw x18, 0(x2)
+    .cfi_offset 18, -32
+    .word 0x01312223  # sw x19, 4(x2)
+    .cfi_offset 19, -28
+    .word 0x01412423  # sw x20, 8(x2)
+    .cfi_offset 20, -24
+    .word 0x01512623  # sw x21, 12(x2)
+    .cfi_offset 21, -20
+    .word 0x01612823  # sw x22, 16(x2)
+    .cfi_offset 22, -16
     # arguments that are needed behind the body
     .word 0x00a12a23  # sw x10, 20(x2)
     .word 0x00b12c23  # sw x11, 24(x2)
@@ -58,23 +58,14 @@ mlkem_multiply_ntts:
     .word 0x00230313  # addi x6, x6, 2
     .word 0xfe7298e3  # bne x5, x7, -16
     # the body
-    .word 0x00000413  # addi x8, x0, 0
-    .word 0x00000493  # addi x9, x0, 0
     .word 0x00000513  # addi x10, x0, 0
     .word 0x00000593  # addi x11, x0, 0
-    .word 0x00000613  # addi x12, x0, 0
-    .word 0x00000693  # addi x13, x0, 0
-    .word 0x00000713  # addi x14, x0, 0
-    .word 0x00000793  # addi x15, x0, 0
-    .word 0x00000813  # addi x16, x0, 0
-    .word 0x00241993  # slli x19, x8, 2
-    .word 0x002989b3  # add x19, x19, x2
-    .word 0x00151a13  # slli x20, x10, 1
-    .word 0x002a0a33  # add x20, x20, x2
-    .word 0x9d7dc8b7  # lui x17, 0x9d7dc
-    .word 0xb4188893  # addi x17, x17, -1215
-    .word 0x00001937  # lui x18, 0x00001
-    .word 0xd0190913  # addi x18, x18, -767
+    .word 0x00251a93  # slli x21, x10, 2
+    .word 0x002a8ab3  # add x21, x21, x2
+    .word 0x9d7dc9b7  # lui x19, 0x9d7dc
+    .word 0xb4198993  # addi x19, x19, -1215
+    .word 0x00001a37  # lui x20, 0x00001
+    .word 0xd01a0a13  # addi x20, x20, -767
     .word 0x01100293  # addi x5, x0, 17
     .word 0x60512023  # sw x5, 1536(x2)
     .word 0x000012b7  # lui x5, 0x00001
@@ -231,80 +222,80 @@ mlkem_multiply_ntts:
     .word 0x000012b7  # lui x5, 0x00001
     .word 0x86a28293  # addi x5, x5, -1942
     .word 0x6e512e23  # sw x5, 1788(x2)
-    .word 0x00000413  # addi x8, x0, 0
-    .word 0x00241993  # slli x19, x8, 2
-    .word 0x002989b3  # add x19, x19, x2
-    .word 0x00000493  # addi x9, x0, 0
-    .word 0x00241293  # slli x5, x8, 2
-    .word 0x00149313  # slli x6, x9, 1
-    .word 0x00628533  # add x10, x5, x6
-    .word 0x00151a13  # slli x20, x10, 1
-    .word 0x002a0a33  # add x20, x20, x2
-    .word 0x000a5583  # lhu x11, 0(x20)
-    .word 0x002a5603  # lhu x12, 2(x20)
-    .word 0x200a5683  # lhu x13, 512(x20)
-    .word 0x202a5703  # lhu x14, 514(x20)
-    .word 0x02e607b3  # mul x15, x12, x14
-    .word 0x0317b833  # mulhu x16, x15, x17
-    .word 0x00b85313  # srli x6, x16, 11
-    .word 0x03230333  # mul x6, x6, x18
-    .word 0x406787b3  # sub x15, x15, x6
+    .word 0x00000513  # addi x10, x0, 0
+    .word 0x00251a93  # slli x21, x10, 2
+    .word 0x002a8ab3  # add x21, x21, x2
+    .word 0x00000593  # addi x11, x0, 0
+    .word 0x00251293  # slli x5, x10, 2
+    .word 0x00159313  # slli x6, x11, 1
+    .word 0x00628633  # add x12, x5, x6
+    .word 0x00161b13  # slli x22, x12, 1
+    .word 0x002b0b33  # add x22, x22, x2
+    .word 0x000b5683  # lhu x13, 0(x22)
+    .word 0x002b5703  # lhu x14, 2(x22)
+    .word 0x200b5783  # lhu x15, 512(x22)
+    .word 0x202b5803  # lhu x16, 514(x22)
+    .word 0x030708b3  # mul x17, x14, x16
+    .word 0x0338b933  # mulhu x18, x17, x19
+    .word 0x00b95313  # srli x6, x18, 11
+    .word 0x03430333  # mul x6, x6, x20
+    .word 0x406888b3  # sub x17, x17, x6
     .word 0x00100313  # addi x6, x0, 1
-    .word 0x00649463  # bne x9, x6, 8
-    .word 0x40f907b3  # sub x15, x18, x15
-    .word 0x02d582b3  # mul x5, x11, x13
-    .word 0x6009a383  # lw x7, 1536(x19)
-    .word 0x02778333  # mul x6, x15, x7
-    .word 0x006287b3  # add x15, x5, x6
-    .word 0x0317b833  # mulhu x16, x15, x17
-    .word 0x00b85313  # srli x6, x16, 11
-    .word 0x03230333  # mul x6, x6, x18
-    .word 0x40678833  # sub x16, x15, x6
-    .word 0x02e582b3  # mul x5, x11, x14
-    .word 0x02d60333  # mul x6, x12, x13
-    .word 0x006287b3  # add x15, x5, x6
-    .word 0x0317b5b3  # mulhu x11, x15, x17
-    .word 0x00b5d313  # srli x6, x11, 11
-    .word 0x03230333  # mul x6, x6, x18
-    .word 0x406787b3  # sub x15, x15, x6
-    .word 0x410a1023  # sh x16, 1024(x20)
-    .word 0x40fa1123  # sh x15, 1026(x20)
-    .word 0x00148493  # addi x9, x9, 1
-    .word 0x0024b293  # sltiu x5, x9, 2
+    .word 0x00659463  # bne x11, x6, 8
+    .word 0x411a08b3  # sub x17, x20, x17
+    .word 0x02f682b3  # mul x5, x13, x15
+    .word 0x600aa383  # lw x7, 1536(x21)
+    .word 0x02788333  # mul x6, x17, x7
+    .word 0x006288b3  # add x17, x5, x6
+    .word 0x0338b933  # mulhu x18, x17, x19
+    .word 0x00b95313  # srli x6, x18, 11
+    .word 0x03430333  # mul x6, x6, x20
+    .word 0x40688933  # sub x18, x17, x6
+    .word 0x030682b3  # mul x5, x13, x16
+    .word 0x02f70333  # mul x6, x14, x15
+    .word 0x006288b3  # add x17, x5, x6
+    .word 0x0338b6b3  # mulhu x13, x17, x19
+    .word 0x00b6d313  # srli x6, x13, 11
+    .word 0x03430333  # mul x6, x6, x20
+    .word 0x406888b3  # sub x17, x17, x6
+    .word 0x412b1023  # sh x18, 1024(x22)
+    .word 0x411b1123  # sh x17, 1026(x22)
+    .word 0x00158593  # addi x11, x11, 1
+    .word 0x0025b293  # sltiu x5, x11, 2
     .word 0xf60298e3  # bne x5, x0, -144
-    .word 0xfff48493  # addi x9, x9, -1
-    .word 0x00140413  # addi x8, x8, 1
-    .word 0x00241993  # slli x19, x8, 2
-    .word 0x002989b3  # add x19, x19, x2
-    .word 0x04043293  # sltiu x5, x8, 64
+    .word 0xfff58593  # addi x11, x11, -1
+    .word 0x00150513  # addi x10, x10, 1
+    .word 0x00251a93  # slli x21, x10, 2
+    .word 0x002a8ab3  # add x21, x21, x2
+    .word 0x04053293  # sltiu x5, x10, 64
     .word 0xf4029ae3  # bne x5, x0, -172
-    .word 0xfff40413  # addi x8, x8, -1
-    .word 0x00241993  # slli x19, x8, 2
-    .word 0x002989b3  # add x19, x19, x2
+    .word 0xfff50513  # addi x10, x10, -1
+    .word 0x00251a93  # slli x21, x10, 2
+    .word 0x002a8ab3  # add x21, x21, x2
     # the result
     .word 0x00000513  # addi x10, x0, 0
     # parameter 2: the array, back
-    .word 0x73c12283  # lw x5, 1852(x2)
-    .word 0x40010313  # addi x6, x2, 1024
+    .word 0x40010293  # addi x5, x2, 1024
+    .word 0x73c12303  # lw x6, 1852(x2)
     .word 0x20028393  # addi x7, x5, 512
-    .word 0x00035e03  # lhu x28, 0(x6)
-    .word 0x01c29023  # sh x28, 0(x5)
+    .word 0x0002de03  # lhu x28, 0(x5)
+    .word 0x01c31023  # sh x28, 0(x6)
     .word 0x00228293  # addi x5, x5, 2
     .word 0x00230313  # addi x6, x6, 2
     .word 0xfe7298e3  # bne x5, x7, -16
     # above the frame
     .word 0x72010293  # addi x5, x2, 1824
     # the caller's registers
-    .word 0x0002a403  # lw x8, 0(x5)
-    .cfi_restore 8
-    .word 0x0042a483  # lw x9, 4(x5)
-    .cfi_restore 9
-    .word 0x0082a903  # lw x18, 8(x5)
+    .word 0x0002a903  # lw x18, 0(x5)
     .cfi_restore 18
-    .word 0x00c2a983  # lw x19, 12(x5)
+    .word 0x0042a983  # lw x19, 4(x5)
     .cfi_restore 19
-    .word 0x0102aa03  # lw x20, 16(x5)
+    .word 0x0082aa03  # lw x20, 8(x5)
     .cfi_restore 20
+    .word 0x00c2aa83  # lw x21, 12(x5)
+    .cfi_restore 21
+    .word 0x0102ab03  # lw x22, 16(x5)
+    .cfi_restore 22
     # the caller's x2
     .word 0x02028293  # addi x5, x5, 32
     .cfi_def_cfa 5, 0

@@ -1,4 +1,4 @@
-# mlkem_subtract: made by factc 1.0.0 function; 80 words, 1056 bytes of stack, profile 1
+# mlkem_subtract: made by factc 1.0.0 function; 74 words, 1056 bytes of stack, profile 1
     .option push
     .option norvc
     .option norelax
@@ -13,10 +13,6 @@ mlkem_subtract:
     .word 0xff010113  # addi x2, x2, -16
     .cfi_def_cfa_offset 16
     # the caller's registers
-    .word 0x00812023  # sw x8, 0(x2)
-    .cfi_offset 8, -16
-    .word 0x00912223  # sw x9, 4(x2)
-    .cfi_offset 9, -12
     # arguments that are needed behind the body
     .word 0x00a12623  # sw x10, 12(x2)
     # the frame's base
@@ -41,49 +37,43 @@ mlkem_subtract:
     .word 0x00230313  # addi x6, x6, 2
     .word 0xfe7298e3  # bne x5, x7, -16
     # the body
-    .word 0x00000493  # addi x9, x0, 0
-    .word 0x00000513  # addi x10, x0, 0
     .word 0x00000593  # addi x11, x0, 0
-    .word 0x00149613  # slli x12, x9, 1
-    .word 0x00260633  # add x12, x12, x2
-    .word 0x00001437  # lui x8, 0x00001
-    .word 0xd0140413  # addi x8, x8, -767
-    .word 0x00000493  # addi x9, x0, 0
-    .word 0x00149613  # slli x12, x9, 1
-    .word 0x00260633  # add x12, x12, x2
-    .word 0x00065283  # lhu x5, 0(x12)
-    .word 0x20065303  # lhu x6, 512(x12)
-    .word 0x40628533  # sub x10, x5, x6
-    .word 0x01055293  # srli x5, x10, 16
-    .word 0x0082f5b3  # and x11, x5, x8
-    .word 0x00b502b3  # add x5, x10, x11
-    .word 0x00561023  # sh x5, 0(x12)
-    .word 0x00148493  # addi x9, x9, 1
-    .word 0x00149613  # slli x12, x9, 1
-    .word 0x00260633  # add x12, x12, x2
-    .word 0x1004b293  # sltiu x5, x9, 256
+    .word 0x00159713  # slli x14, x11, 1
+    .word 0x00270733  # add x14, x14, x2
+    .word 0x00001537  # lui x10, 0x00001
+    .word 0xd0150513  # addi x10, x10, -767
+    .word 0x00000593  # addi x11, x0, 0
+    .word 0x00159713  # slli x14, x11, 1
+    .word 0x00270733  # add x14, x14, x2
+    .word 0x00075283  # lhu x5, 0(x14)
+    .word 0x20075303  # lhu x6, 512(x14)
+    .word 0x40628633  # sub x12, x5, x6
+    .word 0x01065293  # srli x5, x12, 16
+    .word 0x00a2f6b3  # and x13, x5, x10
+    .word 0x00d602b3  # add x5, x12, x13
+    .word 0x00571023  # sh x5, 0(x14)
+    .word 0x00158593  # addi x11, x11, 1
+    .word 0x00159713  # slli x14, x11, 1
+    .word 0x00270733  # add x14, x14, x2
+    .word 0x1005b293  # sltiu x5, x11, 256
     .word 0xfc029ae3  # bne x5, x0, -44
-    .word 0xfff48493  # addi x9, x9, -1
-    .word 0x00149613  # slli x12, x9, 1
-    .word 0x00260633  # add x12, x12, x2
+    .word 0xfff58593  # addi x11, x11, -1
+    .word 0x00159713  # slli x14, x11, 1
+    .word 0x00270733  # add x14, x14, x2
     # the result
     .word 0x00000513  # addi x10, x0, 0
     # parameter 0: the array, back
-    .word 0x41c12283  # lw x5, 1052(x2)
-    .word 0x00010313  # addi x6, x2, 0
+    .word 0x00010293  # addi x5, x2, 0
+    .word 0x41c12303  # lw x6, 1052(x2)
     .word 0x20028393  # addi x7, x5, 512
-    .word 0x00035e03  # lhu x28, 0(x6)
-    .word 0x01c29023  # sh x28, 0(x5)
+    .word 0x0002de03  # lhu x28, 0(x5)
+    .word 0x01c31023  # sh x28, 0(x6)
     .word 0x00228293  # addi x5, x5, 2
     .word 0x00230313  # addi x6, x6, 2
     .word 0xfe7298e3  # bne x5, x7, -16
     # above the frame
     .word 0x41010293  # addi x5, x2, 1040
     # the caller's registers
-    .word 0x0002a403  # lw x8, 0(x5)
-    .cfi_restore 8
-    .word 0x0042a483  # lw x9, 4(x5)
-    .cfi_restore 9
     # the caller's x2
     .word 0x01028293  # addi x5, x5, 16
     .cfi_def_cfa 5, 0

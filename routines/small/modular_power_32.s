@@ -1,4 +1,4 @@
-# modular_power_32: made by factc 1.0.0 function; 114 words, 64 bytes of stack, profile 1
+# modular_power_32: made by factc 1.0.0 function; 111 words, 64 bytes of stack, profile 1
     .option push
     .option norvc
     .option norelax
@@ -13,12 +13,12 @@ modular_power_32:
     .word 0xff010113  # addi x2, x2, -16
     .cfi_def_cfa_offset 16
     # the caller's registers
-    .word 0x00912023  # sw x9, 0(x2)
-    .cfi_offset 9, -16
-    .word 0x01212223  # sw x18, 4(x2)
-    .cfi_offset 18, -12
-    .word 0x01312423  # sw x19, 8(x2)
-    .cfi_offset 19, -8
+    .word 0x01212023  # sw x18, 0(x2)
+    .cfi_offset 18, -16
+    .word 0x01312223  # sw x19, 4(x2)
+    .cfi_offset 19, -12
+    .word 0x01412423  # sw x20, 8(x2)
+    .cfi_offset 20, -8
     # arguments that are needed behind the body
     # the frame's base
     .word 0xfd010113  # addi x2, x2, -48
@@ -34,94 +34,91 @@ modular_power_32:
     # parameter 2: a word
     .word 0x00c12423  # sw x12, 8(x2)
     # the body
-    .word 0x00012483  # lw x9, 0(x2)
-    .word 0x00412503  # lw x10, 4(x2)
-    .word 0x00812583  # lw x11, 8(x2)
-    .word 0x00000693  # addi x13, x0, 0
+    .word 0x00012503  # lw x10, 0(x2)
+    .word 0x00412583  # lw x11, 4(x2)
+    .word 0x00812603  # lw x12, 8(x2)
     .word 0x00000713  # addi x14, x0, 0
-    .word 0x00000793  # addi x15, x0, 0
     .word 0x00000813  # addi x16, x0, 0
-    .word 0x00000893  # addi x17, x0, 0
-    .word 0x00000913  # addi x18, x0, 0
-    .word 0x01012983  # lw x19, 16(x2)
-    .word 0xfff58293  # addi x5, x11, -1
+    .word 0x00000993  # addi x19, x0, 0
+    .word 0x01012a03  # lw x20, 16(x2)
+    .word 0xfff60293  # addi x5, x12, -1
     .word 0x005032b3  # sltu x5, x0, x5
     .word 0x00000313  # addi x6, x0, 0
     .word 0x00100393  # addi x7, x0, 1
     .word 0xfff28293  # addi x5, x5, -1
     .word 0x00734333  # xor x6, x6, x7
     .word 0x00537333  # and x6, x6, x5
-    .word 0x0063c633  # xor x12, x7, x6
-    .word 0x00000693  # addi x13, x0, 0
+    .word 0x0063c6b3  # xor x13, x7, x6
     .word 0x00000713  # addi x14, x0, 0
-    .word 0x00060813  # addi x16, x12, 0
     .word 0x00000793  # addi x15, x0, 0
-    .word 0x00171713  # slli x14, x14, 1
-    .word 0x00b733b3  # sltu x7, x14, x11
-    .word 0xfff38393  # addi x7, x7, -1
-    .word 0x0075f333  # and x6, x11, x7
-    .word 0x40670733  # sub x14, x14, x6
-    .word 0x01f85393  # srli x7, x16, 31
-    .word 0x407003b3  # sub x7, x0, x7
-    .word 0x00767333  # and x6, x12, x7
-    .word 0x00670733  # add x14, x14, x6
-    .word 0x00b733b3  # sltu x7, x14, x11
-    .word 0xfff38393  # addi x7, x7, -1
-    .word 0x0075f333  # and x6, x11, x7
-    .word 0x40670733  # sub x14, x14, x6
-    .word 0x00181813  # slli x16, x16, 1
-    .word 0x00178793  # addi x15, x15, 1
-    .word 0x0207b293  # sltiu x5, x15, 32
-    .word 0xfc0290e3  # bne x5, x0, -64
-    .word 0xfff78793  # addi x15, x15, -1
-    .word 0x00070613  # addi x12, x14, 0
+    .word 0x00068893  # addi x17, x13, 0
     .word 0x00000813  # addi x16, x0, 0
-    .word 0x00048893  # addi x17, x9, 0
-    .word 0x00000913  # addi x18, x0, 0
-    .word 0x00181813  # slli x16, x16, 1
-    .word 0x00b833b3  # sltu x7, x16, x11
+    .word 0x00179793  # slli x15, x15, 1
+    .word 0x00c7b3b3  # sltu x7, x15, x12
     .word 0xfff38393  # addi x7, x7, -1
-    .word 0x0075f333  # and x6, x11, x7
-    .word 0x40680833  # sub x16, x16, x6
+    .word 0x00767333  # and x6, x12, x7
+    .word 0x406787b3  # sub x15, x15, x6
     .word 0x01f8d393  # srli x7, x17, 31
     .word 0x407003b3  # sub x7, x0, x7
-    .word 0x00777333  # and x6, x14, x7
-    .word 0x00680833  # add x16, x16, x6
-    .word 0x00b833b3  # sltu x7, x16, x11
+    .word 0x0076f333  # and x6, x13, x7
+    .word 0x006787b3  # add x15, x15, x6
+    .word 0x00c7b3b3  # sltu x7, x15, x12
     .word 0xfff38393  # addi x7, x7, -1
-    .word 0x0075f333  # and x6, x11, x7
-    .word 0x40680833  # sub x16, x16, x6
+    .word 0x00767333  # and x6, x12, x7
+    .word 0x406787b3  # sub x15, x15, x6
     .word 0x00189893  # slli x17, x17, 1
-    .word 0x00190913  # addi x18, x18, 1
-    .word 0x02093293  # sltiu x5, x18, 32
+    .word 0x00180813  # addi x16, x16, 1
+    .word 0x02083293  # sltiu x5, x16, 32
     .word 0xfc0290e3  # bne x5, x0, -64
-    .word 0xfff90913  # addi x18, x18, -1
+    .word 0xfff80813  # addi x16, x16, -1
+    .word 0x00078693  # addi x13, x15, 0
+    .word 0x00000893  # addi x17, x0, 0
+    .word 0x00050913  # addi x18, x10, 0
+    .word 0x00000993  # addi x19, x0, 0
+    .word 0x00189893  # slli x17, x17, 1
+    .word 0x00c8b3b3  # sltu x7, x17, x12
+    .word 0xfff38393  # addi x7, x7, -1
+    .word 0x00767333  # and x6, x12, x7
+    .word 0x406888b3  # sub x17, x17, x6
+    .word 0x01f95393  # srli x7, x18, 31
+    .word 0x407003b3  # sub x7, x0, x7
+    .word 0x0077f333  # and x6, x15, x7
+    .word 0x006888b3  # add x17, x17, x6
+    .word 0x00c8b3b3  # sltu x7, x17, x12
+    .word 0xfff38393  # addi x7, x7, -1
+    .word 0x00767333  # and x6, x12, x7
+    .word 0x406888b3  # sub x17, x17, x6
+    .word 0x00191913  # slli x18, x18, 1
+    .word 0x00198993  # addi x19, x19, 1
+    .word 0x0209b293  # sltiu x5, x19, 32
+    .word 0xfc0290e3  # bne x5, x0, -64
+    .word 0xfff98993  # addi x19, x19, -1
     .word 0x01f00313  # addi x6, x0, 31
-    .word 0x40d30333  # sub x6, x6, x13
-    .word 0x006552b3  # srl x5, x10, x6
+    .word 0x40e30333  # sub x6, x6, x14
+    .word 0x0065d2b3  # srl x5, x11, x6
     .word 0x0012f293  # andi x5, x5, 1
     .word 0xfff28293  # addi x5, x5, -1
     .word 0x0012b293  # sltiu x5, x5, 1
-    .word 0x405009b3  # sub x19, x0, x5
-    .word 0x00c842b3  # xor x5, x16, x12
-    .word 0x0132f2b3  # and x5, x5, x19
-    .word 0x00564633  # xor x12, x12, x5
-    .word 0x00168693  # addi x13, x13, 1
-    .word 0x0206b293  # sltiu x5, x13, 32
+    .word 0x40500a33  # sub x20, x0, x5
+    .word 0x00d8c2b3  # xor x5, x17, x13
+    .word 0x0142f2b3  # and x5, x5, x20
+    .word 0x0056c6b3  # xor x13, x13, x5
+    .word 0x00170713  # addi x14, x14, 1
+    .word 0x02073293  # sltiu x5, x14, 32
     .word 0xf20292e3  # bne x5, x0, -220
-    .word 0xfff68693  # addi x13, x13, -1
-    .word 0x00c12623  # sw x12, 12(x2)
+    .word 0xfff70713  # addi x14, x14, -1
+    .word 0x00d12623  # sw x13, 12(x2)
     # the result
     .word 0x00c12503  # lw x10, 12(x2)
     # above the frame
     .word 0x03010293  # addi x5, x2, 48
     # the caller's registers
-    .word 0x0002a483  # lw x9, 0(x5)
-    .cfi_restore 9
-    .word 0x0042a903  # lw x18, 4(x5)
+    .word 0x0002a903  # lw x18, 0(x5)
     .cfi_restore 18
-    .word 0x0082a983  # lw x19, 8(x5)
+    .word 0x0042a983  # lw x19, 4(x5)
     .cfi_restore 19
+    .word 0x0082aa03  # lw x20, 8(x5)
+    .cfi_restore 20
     # the caller's x2
     .word 0x01028293  # addi x5, x5, 16
     .cfi_def_cfa 5, 0

@@ -1,4 +1,4 @@
-# p256_from_bytes: made by factc 1.0.0 function; 509 words, 848 bytes of stack, profile 1
+# p256_from_bytes: made by factc 1.0.0 function; 503 words, 848 bytes of stack, profile 1
     .option push
     .option norvc
     .option norelax
@@ -53,14 +53,8 @@ p256_from_bytes:
     # the body
     .word 0x00000513  # addi x10, x0, 0
     .word 0x00000593  # addi x11, x0, 0
-    .word 0x00000613  # addi x12, x0, 0
     .word 0x00000693  # addi x13, x0, 0
-    .word 0x00000713  # addi x14, x0, 0
-    .word 0x00000793  # addi x15, x0, 0
     .word 0x00000813  # addi x16, x0, 0
-    .word 0x00000893  # addi x17, x0, 0
-    .word 0x00000913  # addi x18, x0, 0
-    .word 0x00000993  # addi x19, x0, 0
     .word 0x00000a13  # addi x20, x0, 0
     .word 0x00000a93  # addi x21, x0, 0
     .word 0x00000b13  # addi x22, x0, 0
@@ -497,11 +491,11 @@ p256_from_bytes:
     # the result
     .word 0x2fc12503  # lw x10, 764(x2)
     # parameter 1: the array, back
-    .word 0x34c12283  # lw x5, 844(x2)
-    .word 0x02010313  # addi x6, x2, 32
+    .word 0x02010293  # addi x5, x2, 32
+    .word 0x34c12303  # lw x6, 844(x2)
     .word 0x02028393  # addi x7, x5, 32
-    .word 0x00032e03  # lw x28, 0(x6)
-    .word 0x01c2a023  # sw x28, 0(x5)
+    .word 0x0002ae03  # lw x28, 0(x5)
+    .word 0x01c32023  # sw x28, 0(x6)
     .word 0x00428293  # addi x5, x5, 4
     .word 0x00430313  # addi x6, x6, 4
     .word 0xfe7298e3  # bne x5, x7, -16

@@ -1,4 +1,4 @@
-# p256_scalar_multiply: made by factc 1.0.0 function; 2652 words, 3040 bytes of stack, profile 1
+# p256_scalar_multiply: made by factc 1.0.0 function; 2646 words, 3040 bytes of stack, profile 1
     .option push
     .option norvc
     .option norelax
@@ -82,14 +82,8 @@ p256_scalar_multiply:
     .word 0x00130313  # addi x6, x6, 1
     .word 0xfe7298e3  # bne x5, x7, -16
     # the body
-    .word 0x00000593  # addi x11, x0, 0
     .word 0x00000613  # addi x12, x0, 0
-    .word 0x00000693  # addi x13, x0, 0
-    .word 0x00000713  # addi x14, x0, 0
     .word 0x00000793  # addi x15, x0, 0
-    .word 0x00000813  # addi x16, x0, 0
-    .word 0x00000893  # addi x17, x0, 0
-    .word 0x00000913  # addi x18, x0, 0
     .word 0x00000993  # addi x19, x0, 0
     .word 0x00000a13  # addi x20, x0, 0
     .word 0x00000a93  # addi x21, x0, 0
@@ -2640,13 +2634,13 @@ p256_scalar_multiply:
     .word 0x00250533  # add x10, x10, x2
     .word 0xb7452503  # lw x10, -1164(x10)
     # parameter 2: the array, back
-    .word 0x000012b7  # lui x5, 0x00001
-    .word 0x002282b3  # add x5, x5, x2
-    .word 0xbdc2a283  # lw x5, -1060(x5)
-    .word 0x06010313  # addi x6, x2, 96
+    .word 0x06010293  # addi x5, x2, 96
+    .word 0x00001337  # lui x6, 0x00001
+    .word 0x00230333  # add x6, x6, x2
+    .word 0xbdc32303  # lw x6, -1060(x6)
     .word 0x04028393  # addi x7, x5, 64
-    .word 0x00034e03  # lbu x28, 0(x6)
-    .word 0x01c28023  # sb x28, 0(x5)
+    .word 0x0002ce03  # lbu x28, 0(x5)
+    .word 0x01c30023  # sb x28, 0(x6)
     .word 0x00128293  # addi x5, x5, 1
     .word 0x00130313  # addi x6, x6, 1
     .word 0xfe7298e3  # bne x5, x7, -16

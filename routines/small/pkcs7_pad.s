@@ -1,4 +1,4 @@
-# pkcs7_pad: made by factc 1.0.0 function; 63 words, 48 bytes of stack, profile 1
+# pkcs7_pad: made by factc 1.0.0 function; 59 words, 48 bytes of stack, profile 1
     .option push
     .option norvc
     .option norelax
@@ -13,10 +13,6 @@ pkcs7_pad:
     .word 0xff010113  # addi x2, x2, -16
     .cfi_def_cfa_offset 16
     # the caller's registers
-    .word 0x00812023  # sw x8, 0(x2)
-    .cfi_offset 8, -16
-    .word 0x00912223  # sw x9, 4(x2)
-    .cfi_offset 9, -12
     # arguments that are needed behind the body
     .word 0x00a12423  # sw x10, 8(x2)
     .word 0x00b12623  # sw x11, 12(x2)
@@ -35,38 +31,34 @@ pkcs7_pad:
     .word 0x00130313  # addi x6, x6, 1
     .word 0xfe7298e3  # bne x5, x7, -16
     # the body
-    .word 0x00012403  # lw x8, 0(x2)
-    .word 0x00000593  # addi x11, x0, 0
-    .word 0x00f47493  # andi x9, x8, 15
+    .word 0x00012503  # lw x10, 0(x2)
+    .word 0x00000693  # addi x13, x0, 0
+    .word 0x00f57593  # andi x11, x10, 15
     .word 0x01000293  # addi x5, x0, 16
-    .word 0x409282b3  # sub x5, x5, x9
-    .word 0x0ff2f513  # andi x10, x5, 255
-    .word 0x00000593  # addi x11, x0, 0
-    .word 0x0095e663  # bltu x11, x9, 12
-    .word 0x002582b3  # add x5, x11, x2
-    .word 0x00a28223  # sb x10, 4(x5)
-    .word 0x00158593  # addi x11, x11, 1
-    .word 0x0105b293  # sltiu x5, x11, 16
+    .word 0x40b282b3  # sub x5, x5, x11
+    .word 0x0ff2f613  # andi x12, x5, 255
+    .word 0x00000693  # addi x13, x0, 0
+    .word 0x00b6e663  # bltu x13, x11, 12
+    .word 0x002682b3  # add x5, x13, x2
+    .word 0x00c28223  # sb x12, 4(x5)
+    .word 0x00168693  # addi x13, x13, 1
+    .word 0x0106b293  # sltiu x5, x13, 16
     .word 0xfe0296e3  # bne x5, x0, -20
-    .word 0xfff58593  # addi x11, x11, -1
+    .word 0xfff68693  # addi x13, x13, -1
     # the result
     .word 0x00000513  # addi x10, x0, 0
     # parameter 1: the array, back
-    .word 0x02c12283  # lw x5, 44(x2)
-    .word 0x00410313  # addi x6, x2, 4
+    .word 0x00410293  # addi x5, x2, 4
+    .word 0x02c12303  # lw x6, 44(x2)
     .word 0x01028393  # addi x7, x5, 16
-    .word 0x00034e03  # lbu x28, 0(x6)
-    .word 0x01c28023  # sb x28, 0(x5)
+    .word 0x0002ce03  # lbu x28, 0(x5)
+    .word 0x01c30023  # sb x28, 0(x6)
     .word 0x00128293  # addi x5, x5, 1
     .word 0x00130313  # addi x6, x6, 1
     .word 0xfe7298e3  # bne x5, x7, -16
     # above the frame
     .word 0x02010293  # addi x5, x2, 32
     # the caller's registers
-    .word 0x0002a403  # lw x8, 0(x5)
-    .cfi_restore 8
-    .word 0x0042a483  # lw x9, 4(x5)
-    .cfi_restore 9
     # the caller's x2
     .word 0x01028293  # addi x5, x5, 16
     .cfi_def_cfa 5, 0

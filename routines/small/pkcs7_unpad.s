@@ -1,4 +1,4 @@
-# pkcs7_unpad: made by factc 1.0.0 function; 68 words, 48 bytes of stack, profile 1
+# pkcs7_unpad: made by factc 1.0.0 function; 63 words, 32 bytes of stack, profile 1
     .option push
     .option norvc
     .option norelax
@@ -10,17 +10,12 @@
 pkcs7_unpad:
     .cfi_startproc
     # room above the frame
-    .word 0xff010113  # addi x2, x2, -16
-    .cfi_def_cfa_offset 16
+    .cfi_def_cfa_offset 0
     # the caller's registers
-    .word 0x00812023  # sw x8, 0(x2)
-    .cfi_offset 8, -16
-    .word 0x00912223  # sw x9, 4(x2)
-    .cfi_offset 9, -12
     # arguments that are needed behind the body
     # the frame's base
     .word 0xfe010113  # addi x2, x2, -32
-    .cfi_def_cfa 2, 48
+    .cfi_def_cfa 2, 32
     # parameter 0: an array
     .word 0x00050293  # addi x5, x10, 0
     .word 0x00010313  # addi x6, x2, 0
@@ -31,29 +26,29 @@ pkcs7_unpad:
     .word 0x00130313  # addi x6, x6, 1
     .word 0xfe7298e3  # bne x5, x7, -16
     # the body
-    .word 0x00000593  # addi x11, x0, 0
-    .word 0x00f14403  # lbu x8, 15(x2)
-    .word 0xfff40293  # addi x5, x8, -1
+    .word 0x00000693  # addi x13, x0, 0
+    .word 0x00f14503  # lbu x10, 15(x2)
+    .word 0xfff50293  # addi x5, x10, -1
     .word 0x01000313  # addi x6, x0, 16
-    .word 0x40830333  # sub x6, x6, x8
-    .word 0x0062e4b3  # or x9, x5, x6
+    .word 0x40a30333  # sub x6, x6, x10
+    .word 0x0062e5b3  # or x11, x5, x6
     .word 0x00f00293  # addi x5, x0, 15
-    .word 0x40828533  # sub x10, x5, x8
-    .word 0x00000593  # addi x11, x0, 0
-    .word 0x00258333  # add x6, x11, x2
+    .word 0x40a28633  # sub x12, x5, x10
+    .word 0x00000693  # addi x13, x0, 0
+    .word 0x00268333  # add x6, x13, x2
     .word 0x00034303  # lbu x6, 0(x6)
-    .word 0x00834333  # xor x6, x6, x8
+    .word 0x00a34333  # xor x6, x6, x10
     .word 0x00831313  # slli x6, x6, 8
-    .word 0x00a37333  # and x6, x6, x10
-    .word 0x0064e4b3  # or x9, x9, x6
-    .word 0xfff50513  # addi x10, x10, -1
-    .word 0x00158593  # addi x11, x11, 1
-    .word 0x0105b293  # sltiu x5, x11, 16
+    .word 0x00c37333  # and x6, x6, x12
+    .word 0x0065e5b3  # or x11, x11, x6
+    .word 0xfff60613  # addi x12, x12, -1
+    .word 0x00168693  # addi x13, x13, 1
+    .word 0x0106b293  # sltiu x5, x13, 16
     .word 0xfc029ee3  # bne x5, x0, -36
-    .word 0xfff58593  # addi x11, x11, -1
-    .word 0x1004b293  # sltiu x5, x9, 256
+    .word 0xfff68693  # addi x13, x13, -1
+    .word 0x1005b293  # sltiu x5, x11, 256
     .word 0x01000313  # addi x6, x0, 16
-    .word 0x40830333  # sub x6, x6, x8
+    .word 0x40a30333  # sub x6, x6, x10
     .word 0x0ff37313  # andi x6, x6, 255
     .word 0x0ff00393  # addi x7, x0, 255
     .word 0x405002b3  # sub x5, x0, x5
@@ -66,12 +61,8 @@ pkcs7_unpad:
     # above the frame
     .word 0x02010293  # addi x5, x2, 32
     # the caller's registers
-    .word 0x0002a403  # lw x8, 0(x5)
-    .cfi_restore 8
-    .word 0x0042a483  # lw x9, 4(x5)
-    .cfi_restore 9
     # the caller's x2
-    .word 0x01028293  # addi x5, x5, 16
+    .word 0x00028293  # addi x5, x5, 0
     .cfi_def_cfa 5, 0
     # all the room, wiped upward
     .word 0x00012023  # sw x0, 0(x2)

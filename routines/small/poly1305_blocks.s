@@ -1,4 +1,4 @@
-# poly1305_blocks: made by factc 1.0.0 function; 526 words, 560 bytes of stack, profile 1
+# poly1305_blocks: made by factc 1.0.0 function; 517 words, 560 bytes of stack, profile 1
     .option push
     .option norvc
     .option norelax
@@ -79,21 +79,12 @@ poly1305_blocks:
     .word 0x00430313  # addi x6, x6, 4
     .word 0xfe7298e3  # bne x5, x7, -16
     # the body
-    .word 0x00000613  # addi x12, x0, 0
     .word 0x00000693  # addi x13, x0, 0
-    .word 0x00000713  # addi x14, x0, 0
-    .word 0x00000793  # addi x15, x0, 0
     .word 0x00000813  # addi x16, x0, 0
-    .word 0x00000893  # addi x17, x0, 0
     .word 0x00000913  # addi x18, x0, 0
     .word 0x00000993  # addi x19, x0, 0
     .word 0x00000a13  # addi x20, x0, 0
-    .word 0x00000a93  # addi x21, x0, 0
-    .word 0x00000b13  # addi x22, x0, 0
-    .word 0x00000b93  # addi x23, x0, 0
     .word 0x00000c13  # addi x24, x0, 0
-    .word 0x00000c93  # addi x25, x0, 0
-    .word 0x00000d13  # addi x26, x0, 0
     .word 0x00291d93  # slli x27, x18, 2
     .word 0x002d8db3  # add x27, x27, x2
     .word 0x100002b7  # lui x5, 0x10000
@@ -519,11 +510,11 @@ poly1305_blocks:
     # the result
     .word 0x00000513  # addi x10, x0, 0
     # parameter 3: the array, back
-    .word 0x22c12283  # lw x5, 556(x2)
-    .word 0x12410313  # addi x6, x2, 292
+    .word 0x12410293  # addi x5, x2, 292
+    .word 0x22c12303  # lw x6, 556(x2)
     .word 0x02828393  # addi x7, x5, 40
-    .word 0x00032e03  # lw x28, 0(x6)
-    .word 0x01c2a023  # sw x28, 0(x5)
+    .word 0x0002ae03  # lw x28, 0(x5)
+    .word 0x01c32023  # sw x28, 0(x6)
     .word 0x00428293  # addi x5, x5, 4
     .word 0x00430313  # addi x6, x6, 4
     .word 0xfe7298e3  # bne x5, x7, -16

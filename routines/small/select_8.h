@@ -6,7 +6,7 @@
 #define FACT_select_8_H
 #include <stdbool.h>
 #include <stdint.h>
-#define select_8_STACK_BYTES 64
+#define select_8_STACK_BYTES 48
 #ifdef __cplusplus
 extern "C" {
 #endif

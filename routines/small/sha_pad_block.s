@@ -1,4 +1,4 @@
-# sha_pad_block: made by factc 1.0.0 function; 130 words, 128 bytes of stack, profile 1
+# sha_pad_block: made by factc 1.0.0 function; 128 words, 128 bytes of stack, profile 1
     .option push
     .option norvc
     .option norelax
@@ -45,8 +45,6 @@ sha_pad_block:
     .word 0x04012583  # lw x11, 64(x2)
     .word 0x04412603  # lw x12, 68(x2)
     .word 0x00000793  # addi x15, x0, 0
-    .word 0x00000813  # addi x16, x0, 0
-    .word 0x00000893  # addi x17, x0, 0
     .word 0x00000993  # addi x19, x0, 0
     .word 0x00278a33  # add x20, x15, x2
     .word 0x00659693  # slli x13, x11, 6
@@ -120,11 +118,11 @@ sha_pad_block:
     # the result
     .word 0x04812503  # lw x10, 72(x2)
     # parameter 0: the array, back
-    .word 0x07c12283  # lw x5, 124(x2)
-    .word 0x00010313  # addi x6, x2, 0
+    .word 0x00010293  # addi x5, x2, 0
+    .word 0x07c12303  # lw x6, 124(x2)
     .word 0x04028393  # addi x7, x5, 64
-    .word 0x00034e03  # lbu x28, 0(x6)
-    .word 0x01c28023  # sb x28, 0(x5)
+    .word 0x0002ce03  # lbu x28, 0(x5)
+    .word 0x01c30023  # sb x28, 0(x6)
     .word 0x00128293  # addi x5, x5, 1
     .word 0x00130313  # addi x6, x6, 1
     .word 0xfe7298e3  # bne x5, x7, -16

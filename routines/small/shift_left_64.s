@@ -54,12 +54,12 @@ shift_left_64:
     # the result
     .word 0x00000513  # addi x10, x0, 0
     # parameter 0: the array, back
-    .word 0x01c12283  # lw x5, 28(x2)
-    .word 0x00010313  # addi x6, x2, 0
-    .word 0x00032e03  # lw x28, 0(x6)
-    .word 0x01c2a023  # sw x28, 0(x5)
-    .word 0x00432e03  # lw x28, 4(x6)
-    .word 0x01c2a223  # sw x28, 4(x5)
+    .word 0x00010293  # addi x5, x2, 0
+    .word 0x01c12303  # lw x6, 28(x2)
+    .word 0x0002ae03  # lw x28, 0(x5)
+    .word 0x01c32023  # sw x28, 0(x6)
+    .word 0x0042ae03  # lw x28, 4(x5)
+    .word 0x01c32223  # sw x28, 4(x6)
     # above the frame
     .word 0x01010293  # addi x5, x2, 16
     # the caller's registers

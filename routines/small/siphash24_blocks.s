@@ -1,4 +1,4 @@
-# siphash24_blocks: made by factc 1.0.0 function; 202 words, 176 bytes of stack, profile 1
+# siphash24_blocks: made by factc 1.0.0 function; 197 words, 176 bytes of stack, profile 1
     .option push
     .option norvc
     .option norelax
@@ -13,22 +13,22 @@ siphash24_blocks:
     .word 0xfd010113  # addi x2, x2, -48
     .cfi_def_cfa_offset 48
     # the caller's registers
-    .word 0x00812023  # sw x8, 0(x2)
-    .cfi_offset 8, -48
-    .word 0x00912223  # sw x9, 4(x2)
-    .cfi_offset 9, -44
-    .word 0x01212423  # sw x18, 8(x2)
-    .cfi_offset 18, -40
-    .word 0x01312623  # sw x19, 12(x2)
-    .cfi_offset 19, -36
-    .word 0x01412823  # sw x20, 16(x2)
-    .cfi_offset 20, -32
-    .word 0x01512a23  # sw x21, 20(x2)
-    .cfi_offset 21, -28
-    .word 0x01612c23  # sw x22, 24(x2)
-    .cfi_offset 22, -24
-    .word 0x01712e23  # sw x23, 28(x2)
-    .cfi_offset 23, -20
+    .word 0x01212023  # sw x18, 0(x2)
+    .cfi_offset 18, -48
+    .word 0x01312223  # sw x19, 4(x2)
+    .cfi_offset 19, -44
+    .word 0x01412423  # sw x20, 8(x2)
+    .cfi_offset 20, -40
+    .word 0x01512623  # sw x21, 12(x2)
+    .cfi_offset 21, -36
+    .word 0x01612823  # sw x22, 16(x2)
+    .cfi_offset 22, -32
+    .word 0x01712a23  # sw x23, 20(x2)
+    .cfi_offset 23, -28
+    .word 0x01812c23  # sw x24, 24(x2)
+    .cfi_offset 24, -24
+    .word 0x01912e23  # sw x25, 28(x2)
+    .cfi_offset 25, -20
     # arguments that are needed behind the body
     .word 0x02a12623  # sw x10, 44(x2)
     # the frame's base
@@ -55,27 +55,22 @@ siphash24_blocks:
     # parameter 2: a word
     .word 0x06c12023  # sw x12, 96(x2)
     # the body
-    .word 0x06012403  # lw x8, 96(x2)
-    .word 0x00000893  # addi x17, x0, 0
-    .word 0x00000913  # addi x18, x0, 0
-    .word 0x00000993  # addi x19, x0, 0
+    .word 0x06012503  # lw x10, 96(x2)
     .word 0x00000a13  # addi x20, x0, 0
-    .word 0x00000a93  # addi x21, x0, 0
-    .word 0x00000b13  # addi x22, x0, 0
-    .word 0x00298bb3  # add x23, x19, x2
-    .word 0x00012483  # lw x9, 0(x2)
-    .word 0x00412503  # lw x10, 4(x2)
-    .word 0x00812583  # lw x11, 8(x2)
-    .word 0x00c12603  # lw x12, 12(x2)
-    .word 0x01012683  # lw x13, 16(x2)
-    .word 0x01412703  # lw x14, 20(x2)
-    .word 0x01812783  # lw x15, 24(x2)
-    .word 0x01c12803  # lw x16, 28(x2)
+    .word 0x00000c13  # addi x24, x0, 0
+    .word 0x00012583  # lw x11, 0(x2)
+    .word 0x00412603  # lw x12, 4(x2)
+    .word 0x00812683  # lw x13, 8(x2)
+    .word 0x00c12703  # lw x14, 12(x2)
+    .word 0x01012783  # lw x15, 16(x2)
+    .word 0x01412803  # lw x16, 20(x2)
+    .word 0x01812883  # lw x17, 24(x2)
+    .word 0x01c12903  # lw x18, 28(x2)
     .word 0x06012423  # sw x0, 104(x2)
-    .word 0x00843293  # sltiu x5, x8, 8
+    .word 0x00853293  # sltiu x5, x10, 8
     .word 0x00800393  # addi x7, x0, 8
     .word 0x405002b3  # sub x5, x0, x5
-    .word 0x00744333  # xor x6, x8, x7
+    .word 0x00754333  # xor x6, x10, x7
     .word 0x00537333  # and x6, x6, x5
     .word 0x0063c2b3  # xor x5, x7, x6
     .word 0x00900313  # addi x6, x0, 9
@@ -86,139 +81,139 @@ siphash24_blocks:
     .word 0x005332b3  # sltu x5, x6, x5
     .word 0x00029463  # bne x5, x0, 8
     .word 0x1800006f  # jal x0, 384
-    .word 0x00030913  # addi x18, x6, 0
-    .word 0x00391993  # slli x19, x18, 3
-    .word 0x00298bb3  # add x23, x19, x2
-    .word 0x020bc283  # lbu x5, 32(x23)
-    .word 0x021bc303  # lbu x6, 33(x23)
+    .word 0x00030a13  # addi x20, x6, 0
+    .word 0x003a1a93  # slli x21, x20, 3
+    .word 0x002a8cb3  # add x25, x21, x2
+    .word 0x020cc283  # lbu x5, 32(x25)
+    .word 0x021cc303  # lbu x6, 33(x25)
     .word 0x00831313  # slli x6, x6, 8
-    .word 0x0062e8b3  # or x17, x5, x6
-    .word 0x022bc303  # lbu x6, 34(x23)
+    .word 0x0062e9b3  # or x19, x5, x6
+    .word 0x022cc303  # lbu x6, 34(x25)
     .word 0x01031313  # slli x6, x6, 16
-    .word 0x0068e2b3  # or x5, x17, x6
-    .word 0x023bc303  # lbu x6, 35(x23)
+    .word 0x0069e2b3  # or x5, x19, x6
+    .word 0x023cc303  # lbu x6, 35(x25)
     .word 0x01831313  # slli x6, x6, 24
-    .word 0x0062ea33  # or x20, x5, x6
-    .word 0x00391293  # slli x5, x18, 3
-    .word 0x00428993  # addi x19, x5, 4
-    .word 0x00298bb3  # add x23, x19, x2
-    .word 0x020bc283  # lbu x5, 32(x23)
-    .word 0x021bc303  # lbu x6, 33(x23)
+    .word 0x0062eb33  # or x22, x5, x6
+    .word 0x003a1293  # slli x5, x20, 3
+    .word 0x00428a93  # addi x21, x5, 4
+    .word 0x002a8cb3  # add x25, x21, x2
+    .word 0x020cc283  # lbu x5, 32(x25)
+    .word 0x021cc303  # lbu x6, 33(x25)
     .word 0x00831313  # slli x6, x6, 8
-    .word 0x0062e8b3  # or x17, x5, x6
-    .word 0x022bc303  # lbu x6, 34(x23)
+    .word 0x0062e9b3  # or x19, x5, x6
+    .word 0x022cc303  # lbu x6, 34(x25)
     .word 0x01031313  # slli x6, x6, 16
-    .word 0x0068e2b3  # or x5, x17, x6
-    .word 0x023bc303  # lbu x6, 35(x23)
+    .word 0x0069e2b3  # or x5, x19, x6
+    .word 0x023cc303  # lbu x6, 35(x25)
     .word 0x01831313  # slli x6, x6, 24
-    .word 0x0062eab3  # or x21, x5, x6
-    .word 0x0147c7b3  # xor x15, x15, x20
-    .word 0x01584833  # xor x16, x16, x21
-    .word 0x00000b13  # addi x22, x0, 0
-    .word 0x00b484b3  # add x9, x9, x11
-    .word 0x00c502b3  # add x5, x10, x12
-    .word 0x00b4b333  # sltu x6, x9, x11
-    .word 0x00628533  # add x10, x5, x6
-    .word 0x00d59293  # slli x5, x11, 13
-    .word 0x01365313  # srli x6, x12, 19
-    .word 0x0062e8b3  # or x17, x5, x6
-    .word 0x00d61293  # slli x5, x12, 13
-    .word 0x0135d313  # srli x6, x11, 19
-    .word 0x0062e633  # or x12, x5, x6
-    .word 0x0098c5b3  # xor x11, x17, x9
-    .word 0x00a64633  # xor x12, x12, x10
-    .word 0x00048893  # addi x17, x9, 0
-    .word 0x00050493  # addi x9, x10, 0
-    .word 0x00088513  # addi x10, x17, 0
-    .word 0x00f686b3  # add x13, x13, x15
-    .word 0x010702b3  # add x5, x14, x16
-    .word 0x00f6b333  # sltu x6, x13, x15
-    .word 0x00628733  # add x14, x5, x6
-    .word 0x01079293  # slli x5, x15, 16
-    .word 0x01085313  # srli x6, x16, 16
-    .word 0x0062e8b3  # or x17, x5, x6
-    .word 0x01081293  # slli x5, x16, 16
-    .word 0x0107d313  # srli x6, x15, 16
-    .word 0x0062e833  # or x16, x5, x6
-    .word 0x00d8c7b3  # xor x15, x17, x13
-    .word 0x00e84833  # xor x16, x16, x14
-    .word 0x00f484b3  # add x9, x9, x15
-    .word 0x010502b3  # add x5, x10, x16
-    .word 0x00f4b333  # sltu x6, x9, x15
-    .word 0x00628533  # add x10, x5, x6
-    .word 0x01579293  # slli x5, x15, 21
-    .word 0x00b85313  # srli x6, x16, 11
-    .word 0x0062e8b3  # or x17, x5, x6
-    .word 0x01581293  # slli x5, x16, 21
-    .word 0x00b7d313  # srli x6, x15, 11
-    .word 0x0062e833  # or x16, x5, x6
-    .word 0x0098c7b3  # xor x15, x17, x9
-    .word 0x00a84833  # xor x16, x16, x10
-    .word 0x00b686b3  # add x13, x13, x11
-    .word 0x00c702b3  # add x5, x14, x12
-    .word 0x00b6b333  # sltu x6, x13, x11
-    .word 0x00628733  # add x14, x5, x6
-    .word 0x01159293  # slli x5, x11, 17
-    .word 0x00f65313  # srli x6, x12, 15
-    .word 0x0062e8b3  # or x17, x5, x6
-    .word 0x01161293  # slli x5, x12, 17
-    .word 0x00f5d313  # srli x6, x11, 15
-    .word 0x0062e633  # or x12, x5, x6
-    .word 0x00d8c5b3  # xor x11, x17, x13
-    .word 0x00e64633  # xor x12, x12, x14
-    .word 0x00068893  # addi x17, x13, 0
-    .word 0x00070693  # addi x13, x14, 0
-    .word 0x00088713  # addi x14, x17, 0
-    .word 0x001b0b13  # addi x22, x22, 1
-    .word 0x002b3293  # sltiu x5, x22, 2
+    .word 0x0062ebb3  # or x23, x5, x6
+    .word 0x0168c8b3  # xor x17, x17, x22
+    .word 0x01794933  # xor x18, x18, x23
+    .word 0x00000c13  # addi x24, x0, 0
+    .word 0x00d585b3  # add x11, x11, x13
+    .word 0x00e602b3  # add x5, x12, x14
+    .word 0x00d5b333  # sltu x6, x11, x13
+    .word 0x00628633  # add x12, x5, x6
+    .word 0x00d69293  # slli x5, x13, 13
+    .word 0x01375313  # srli x6, x14, 19
+    .word 0x0062e9b3  # or x19, x5, x6
+    .word 0x00d71293  # slli x5, x14, 13
+    .word 0x0136d313  # srli x6, x13, 19
+    .word 0x0062e733  # or x14, x5, x6
+    .word 0x00b9c6b3  # xor x13, x19, x11
+    .word 0x00c74733  # xor x14, x14, x12
+    .word 0x00058993  # addi x19, x11, 0
+    .word 0x00060593  # addi x11, x12, 0
+    .word 0x00098613  # addi x12, x19, 0
+    .word 0x011787b3  # add x15, x15, x17
+    .word 0x012802b3  # add x5, x16, x18
+    .word 0x0117b333  # sltu x6, x15, x17
+    .word 0x00628833  # add x16, x5, x6
+    .word 0x01089293  # slli x5, x17, 16
+    .word 0x01095313  # srli x6, x18, 16
+    .word 0x0062e9b3  # or x19, x5, x6
+    .word 0x01091293  # slli x5, x18, 16
+    .word 0x0108d313  # srli x6, x17, 16
+    .word 0x0062e933  # or x18, x5, x6
+    .word 0x00f9c8b3  # xor x17, x19, x15
+    .word 0x01094933  # xor x18, x18, x16
+    .word 0x011585b3  # add x11, x11, x17
+    .word 0x012602b3  # add x5, x12, x18
+    .word 0x0115b333  # sltu x6, x11, x17
+    .word 0x00628633  # add x12, x5, x6
+    .word 0x01589293  # slli x5, x17, 21
+    .word 0x00b95313  # srli x6, x18, 11
+    .word 0x0062e9b3  # or x19, x5, x6
+    .word 0x01591293  # slli x5, x18, 21
+    .word 0x00b8d313  # srli x6, x17, 11
+    .word 0x0062e933  # or x18, x5, x6
+    .word 0x00b9c8b3  # xor x17, x19, x11
+    .word 0x00c94933  # xor x18, x18, x12
+    .word 0x00d787b3  # add x15, x15, x13
+    .word 0x00e802b3  # add x5, x16, x14
+    .word 0x00d7b333  # sltu x6, x15, x13
+    .word 0x00628833  # add x16, x5, x6
+    .word 0x01169293  # slli x5, x13, 17
+    .word 0x00f75313  # srli x6, x14, 15
+    .word 0x0062e9b3  # or x19, x5, x6
+    .word 0x01171293  # slli x5, x14, 17
+    .word 0x00f6d313  # srli x6, x13, 15
+    .word 0x0062e733  # or x14, x5, x6
+    .word 0x00f9c6b3  # xor x13, x19, x15
+    .word 0x01074733  # xor x14, x14, x16
+    .word 0x00078993  # addi x19, x15, 0
+    .word 0x00080793  # addi x15, x16, 0
+    .word 0x00098813  # addi x16, x19, 0
+    .word 0x001c0c13  # addi x24, x24, 1
+    .word 0x002c3293  # sltiu x5, x24, 2
     .word 0xf20290e3  # bne x5, x0, -224
-    .word 0xfffb0b13  # addi x22, x22, -1
-    .word 0x0144c4b3  # xor x9, x9, x20
-    .word 0x01554533  # xor x10, x10, x21
-    .word 0x00190913  # addi x18, x18, 1
+    .word 0xfffc0c13  # addi x24, x24, -1
+    .word 0x0165c5b3  # xor x11, x11, x22
+    .word 0x01764633  # xor x12, x12, x23
+    .word 0x001a0a13  # addi x20, x20, 1
     .word 0x06c12283  # lw x5, 108(x2)
-    .word 0x005932b3  # sltu x5, x18, x5
+    .word 0x005a32b3  # sltu x5, x20, x5
     .word 0xe8029ae3  # bne x5, x0, -364
-    .word 0xfff90913  # addi x18, x18, -1
+    .word 0xfffa0a13  # addi x20, x20, -1
     .word 0x0040006f  # jal x0, 4
-    .word 0x00912023  # sw x9, 0(x2)
-    .word 0x00a12223  # sw x10, 4(x2)
-    .word 0x00b12423  # sw x11, 8(x2)
-    .word 0x00c12623  # sw x12, 12(x2)
-    .word 0x00d12823  # sw x13, 16(x2)
-    .word 0x00e12a23  # sw x14, 20(x2)
-    .word 0x00f12c23  # sw x15, 24(x2)
-    .word 0x01012e23  # sw x16, 28(x2)
+    .word 0x00b12023  # sw x11, 0(x2)
+    .word 0x00c12223  # sw x12, 4(x2)
+    .word 0x00d12423  # sw x13, 8(x2)
+    .word 0x00e12623  # sw x14, 12(x2)
+    .word 0x00f12823  # sw x15, 16(x2)
+    .word 0x01012a23  # sw x16, 20(x2)
+    .word 0x01112c23  # sw x17, 24(x2)
+    .word 0x01212e23  # sw x18, 28(x2)
     # the result
     .word 0x00000513  # addi x10, x0, 0
     # parameter 0: the array, back
-    .word 0x0ac12283  # lw x5, 172(x2)
-    .word 0x00010313  # addi x6, x2, 0
+    .word 0x00010293  # addi x5, x2, 0
+    .word 0x0ac12303  # lw x6, 172(x2)
     .word 0x02028393  # addi x7, x5, 32
-    .word 0x00032e03  # lw x28, 0(x6)
-    .word 0x01c2a023  # sw x28, 0(x5)
+    .word 0x0002ae03  # lw x28, 0(x5)
+    .word 0x01c32023  # sw x28, 0(x6)
     .word 0x00428293  # addi x5, x5, 4
     .word 0x00430313  # addi x6, x6, 4
     .word 0xfe7298e3  # bne x5, x7, -16
     # above the frame
     .word 0x08010293  # addi x5, x2, 128
     # the caller's registers
-    .word 0x0002a403  # lw x8, 0(x5)
-    .cfi_restore 8
-    .word 0x0042a483  # lw x9, 4(x5)
-    .cfi_restore 9
-    .word 0x0082a903  # lw x18, 8(x5)
+    .word 0x0002a903  # lw x18, 0(x5)
     .cfi_restore 18
-    .word 0x00c2a983  # lw x19, 12(x5)
+    .word 0x0042a983  # lw x19, 4(x5)
     .cfi_restore 19
-    .word 0x0102aa03  # lw x20, 16(x5)
+    .word 0x0082aa03  # lw x20, 8(x5)
     .cfi_restore 20
-    .word 0x0142aa83  # lw x21, 20(x5)
+    .word 0x00c2aa83  # lw x21, 12(x5)
     .cfi_restore 21
-    .word 0x0182ab03  # lw x22, 24(x5)
+    .word 0x0102ab03  # lw x22, 16(x5)
     .cfi_restore 22
-    .word 0x01c2ab83  # lw x23, 28(x5)
+    .word 0x0142ab83  # lw x23, 20(x5)
     .cfi_restore 23
+    .word 0x0182ac03  # lw x24, 24(x5)
+    .cfi_restore 24
+    .word 0x01c2ac83  # lw x25, 28(x5)
+    .cfi_restore 25
     # the caller's x2
     .word 0x03028293  # addi x5, x5, 48
     .cfi_def_cfa 5, 0

@@ -13,18 +13,18 @@ siphash24_finish:
     .word 0xfd010113  # addi x2, x2, -48
     .cfi_def_cfa_offset 48
     # the caller's registers
-    .word 0x00912023  # sw x9, 0(x2)
-    .cfi_offset 9, -48
-    .word 0x01212223  # sw x18, 4(x2)
-    .cfi_offset 18, -44
-    .word 0x01312423  # sw x19, 8(x2)
-    .cfi_offset 19, -40
-    .word 0x01412623  # sw x20, 12(x2)
-    .cfi_offset 20, -36
-    .word 0x01512823  # sw x21, 16(x2)
-    .cfi_offset 21, -32
-    .word 0x01612a23  # sw x22, 20(x2)
-    .cfi_offset 22, -28
+    .word 0x01212023  # sw x18, 0(x2)
+    .cfi_offset 18, -48
+    .word 0x01312223  # sw x19, 4(x2)
+    .cfi_offset 19, -44
+    .word 0x01412423  # sw x20, 8(x2)
+    .cfi_offset 20, -40
+    .word 0x01512623  # sw x21, 12(x2)
+    .cfi_offset 21, -36
+    .word 0x01612823  # sw x22, 16(x2)
+    .cfi_offset 22, -32
+    .word 0x01712a23  # sw x23, 20(x2)
+    .cfi_offset 23, -28
     # arguments that are needed behind the body
     .word 0x02a12223  # sw x10, 36(x2)
     .word 0x02b12423  # sw x11, 40(x2)
@@ -51,149 +51,149 @@ siphash24_finish:
     .word 0x00130313  # addi x6, x6, 1
     .word 0xfe7298e3  # bne x5, x7, -16
     # the body
-    .word 0x00000a13  # addi x20, x0, 0
     .word 0x00000a93  # addi x21, x0, 0
-    .word 0x002a8b33  # add x22, x21, x2
-    .word 0x00012483  # lw x9, 0(x2)
-    .word 0x00412503  # lw x10, 4(x2)
-    .word 0x00812583  # lw x11, 8(x2)
-    .word 0x00c12603  # lw x12, 12(x2)
-    .word 0x01012683  # lw x13, 16(x2)
-    .word 0x01412703  # lw x14, 20(x2)
-    .word 0x01812783  # lw x15, 24(x2)
-    .word 0x01c12803  # lw x16, 28(x2)
+    .word 0x00000b13  # addi x22, x0, 0
+    .word 0x002b0bb3  # add x23, x22, x2
+    .word 0x00012503  # lw x10, 0(x2)
+    .word 0x00412583  # lw x11, 4(x2)
+    .word 0x00812603  # lw x12, 8(x2)
+    .word 0x00c12683  # lw x13, 12(x2)
+    .word 0x01012703  # lw x14, 16(x2)
+    .word 0x01412783  # lw x15, 20(x2)
+    .word 0x01812803  # lw x16, 24(x2)
+    .word 0x01c12883  # lw x17, 28(x2)
     .word 0x02014283  # lbu x5, 32(x2)
     .word 0x02114303  # lbu x6, 33(x2)
     .word 0x00831313  # slli x6, x6, 8
-    .word 0x0062e8b3  # or x17, x5, x6
+    .word 0x0062e933  # or x18, x5, x6
     .word 0x02214303  # lbu x6, 34(x2)
     .word 0x01031313  # slli x6, x6, 16
-    .word 0x0068e2b3  # or x5, x17, x6
+    .word 0x006962b3  # or x5, x18, x6
     .word 0x02314303  # lbu x6, 35(x2)
     .word 0x01831313  # slli x6, x6, 24
-    .word 0x0062e933  # or x18, x5, x6
+    .word 0x0062e9b3  # or x19, x5, x6
     .word 0x02414283  # lbu x5, 36(x2)
     .word 0x02514303  # lbu x6, 37(x2)
     .word 0x00831313  # slli x6, x6, 8
-    .word 0x0062e8b3  # or x17, x5, x6
+    .word 0x0062e933  # or x18, x5, x6
     .word 0x02614303  # lbu x6, 38(x2)
     .word 0x01031313  # slli x6, x6, 16
-    .word 0x0068e2b3  # or x5, x17, x6
+    .word 0x006962b3  # or x5, x18, x6
     .word 0x02714303  # lbu x6, 39(x2)
     .word 0x01831313  # slli x6, x6, 24
-    .word 0x0062e9b3  # or x19, x5, x6
-    .word 0x0127c7b3  # xor x15, x15, x18
+    .word 0x0062ea33  # or x20, x5, x6
     .word 0x01384833  # xor x16, x16, x19
-    .word 0x00000a13  # addi x20, x0, 0
+    .word 0x0148c8b3  # xor x17, x17, x20
+    .word 0x00000a93  # addi x21, x0, 0
     .word 0x00200313  # addi x6, x0, 2
-    .word 0x006a1863  # bne x20, x6, 16
-    .word 0x0124c4b3  # xor x9, x9, x18
+    .word 0x006a9863  # bne x21, x6, 16
     .word 0x01354533  # xor x10, x10, x19
-    .word 0x0ff6c693  # xori x13, x13, 255
-    .word 0x00b484b3  # add x9, x9, x11
-    .word 0x00c502b3  # add x5, x10, x12
-    .word 0x00b4b333  # sltu x6, x9, x11
-    .word 0x00628533  # add x10, x5, x6
-    .word 0x00d59293  # slli x5, x11, 13
-    .word 0x01365313  # srli x6, x12, 19
-    .word 0x0062e8b3  # or x17, x5, x6
+    .word 0x0145c5b3  # xor x11, x11, x20
+    .word 0x0ff74713  # xori x14, x14, 255
+    .word 0x00c50533  # add x10, x10, x12
+    .word 0x00d582b3  # add x5, x11, x13
+    .word 0x00c53333  # sltu x6, x10, x12
+    .word 0x006285b3  # add x11, x5, x6
     .word 0x00d61293  # slli x5, x12, 13
-    .word 0x0135d313  # srli x6, x11, 19
-    .word 0x0062e633  # or x12, x5, x6
-    .word 0x0098c5b3  # xor x11, x17, x9
-    .word 0x00a64633  # xor x12, x12, x10
-    .word 0x00048893  # addi x17, x9, 0
-    .word 0x00050493  # addi x9, x10, 0
-    .word 0x00088513  # addi x10, x17, 0
-    .word 0x00f686b3  # add x13, x13, x15
-    .word 0x010702b3  # add x5, x14, x16
-    .word 0x00f6b333  # sltu x6, x13, x15
-    .word 0x00628733  # add x14, x5, x6
-    .word 0x01079293  # slli x5, x15, 16
+    .word 0x0136d313  # srli x6, x13, 19
+    .word 0x0062e933  # or x18, x5, x6
+    .word 0x00d69293  # slli x5, x13, 13
+    .word 0x01365313  # srli x6, x12, 19
+    .word 0x0062e6b3  # or x13, x5, x6
+    .word 0x00a94633  # xor x12, x18, x10
+    .word 0x00b6c6b3  # xor x13, x13, x11
+    .word 0x00050913  # addi x18, x10, 0
+    .word 0x00058513  # addi x10, x11, 0
+    .word 0x00090593  # addi x11, x18, 0
+    .word 0x01070733  # add x14, x14, x16
+    .word 0x011782b3  # add x5, x15, x17
+    .word 0x01073333  # sltu x6, x14, x16
+    .word 0x006287b3  # add x15, x5, x6
+    .word 0x01081293  # slli x5, x16, 16
+    .word 0x0108d313  # srli x6, x17, 16
+    .word 0x0062e933  # or x18, x5, x6
+    .word 0x01089293  # slli x5, x17, 16
     .word 0x01085313  # srli x6, x16, 16
     .word 0x0062e8b3  # or x17, x5, x6
-    .word 0x01081293  # slli x5, x16, 16
-    .word 0x0107d313  # srli x6, x15, 16
-    .word 0x0062e833  # or x16, x5, x6
-    .word 0x00d8c7b3  # xor x15, x17, x13
-    .word 0x00e84833  # xor x16, x16, x14
-    .word 0x00f484b3  # add x9, x9, x15
-    .word 0x010502b3  # add x5, x10, x16
-    .word 0x00f4b333  # sltu x6, x9, x15
-    .word 0x00628533  # add x10, x5, x6
-    .word 0x01579293  # slli x5, x15, 21
+    .word 0x00e94833  # xor x16, x18, x14
+    .word 0x00f8c8b3  # xor x17, x17, x15
+    .word 0x01050533  # add x10, x10, x16
+    .word 0x011582b3  # add x5, x11, x17
+    .word 0x01053333  # sltu x6, x10, x16
+    .word 0x006285b3  # add x11, x5, x6
+    .word 0x01581293  # slli x5, x16, 21
+    .word 0x00b8d313  # srli x6, x17, 11
+    .word 0x0062e933  # or x18, x5, x6
+    .word 0x01589293  # slli x5, x17, 21
     .word 0x00b85313  # srli x6, x16, 11
     .word 0x0062e8b3  # or x17, x5, x6
-    .word 0x01581293  # slli x5, x16, 21
-    .word 0x00b7d313  # srli x6, x15, 11
-    .word 0x0062e833  # or x16, x5, x6
-    .word 0x0098c7b3  # xor x15, x17, x9
-    .word 0x00a84833  # xor x16, x16, x10
-    .word 0x00b686b3  # add x13, x13, x11
-    .word 0x00c702b3  # add x5, x14, x12
-    .word 0x00b6b333  # sltu x6, x13, x11
-    .word 0x00628733  # add x14, x5, x6
-    .word 0x01159293  # slli x5, x11, 17
-    .word 0x00f65313  # srli x6, x12, 15
-    .word 0x0062e8b3  # or x17, x5, x6
+    .word 0x00a94833  # xor x16, x18, x10
+    .word 0x00b8c8b3  # xor x17, x17, x11
+    .word 0x00c70733  # add x14, x14, x12
+    .word 0x00d782b3  # add x5, x15, x13
+    .word 0x00c73333  # sltu x6, x14, x12
+    .word 0x006287b3  # add x15, x5, x6
     .word 0x01161293  # slli x5, x12, 17
-    .word 0x00f5d313  # srli x6, x11, 15
-    .word 0x0062e633  # or x12, x5, x6
-    .word 0x00d8c5b3  # xor x11, x17, x13
-    .word 0x00e64633  # xor x12, x12, x14
-    .word 0x00068893  # addi x17, x13, 0
-    .word 0x00070693  # addi x13, x14, 0
-    .word 0x00088713  # addi x14, x17, 0
-    .word 0x001a0a13  # addi x20, x20, 1
-    .word 0x006a3293  # sltiu x5, x20, 6
+    .word 0x00f6d313  # srli x6, x13, 15
+    .word 0x0062e933  # or x18, x5, x6
+    .word 0x01169293  # slli x5, x13, 17
+    .word 0x00f65313  # srli x6, x12, 15
+    .word 0x0062e6b3  # or x13, x5, x6
+    .word 0x00e94633  # xor x12, x18, x14
+    .word 0x00f6c6b3  # xor x13, x13, x15
+    .word 0x00070913  # addi x18, x14, 0
+    .word 0x00078713  # addi x14, x15, 0
+    .word 0x00090793  # addi x15, x18, 0
+    .word 0x001a8a93  # addi x21, x21, 1
+    .word 0x006ab293  # sltiu x5, x21, 6
     .word 0xf00296e3  # bne x5, x0, -244
-    .word 0xfffa0a13  # addi x20, x20, -1
-    .word 0x00b4c2b3  # xor x5, x9, x11
-    .word 0x00d2c2b3  # xor x5, x5, x13
-    .word 0x00f2c8b3  # xor x17, x5, x15
+    .word 0xfffa8a93  # addi x21, x21, -1
     .word 0x00c542b3  # xor x5, x10, x12
     .word 0x00e2c2b3  # xor x5, x5, x14
-    .word 0x0102c7b3  # xor x15, x5, x16
-    .word 0x00000a93  # addi x21, x0, 0
-    .word 0x002a8b33  # add x22, x21, x2
-    .word 0x003a9313  # slli x6, x21, 3
-    .word 0x0068d2b3  # srl x5, x17, x6
-    .word 0x025b0423  # sb x5, 40(x22)
-    .word 0x003a9313  # slli x6, x21, 3
-    .word 0x0067d2b3  # srl x5, x15, x6
-    .word 0x025b0623  # sb x5, 44(x22)
-    .word 0x001a8a93  # addi x21, x21, 1
-    .word 0x002a8b33  # add x22, x21, x2
-    .word 0x004ab293  # sltiu x5, x21, 4
+    .word 0x0102c933  # xor x18, x5, x16
+    .word 0x00d5c2b3  # xor x5, x11, x13
+    .word 0x00f2c2b3  # xor x5, x5, x15
+    .word 0x0112c833  # xor x16, x5, x17
+    .word 0x00000b13  # addi x22, x0, 0
+    .word 0x002b0bb3  # add x23, x22, x2
+    .word 0x003b1313  # slli x6, x22, 3
+    .word 0x006952b3  # srl x5, x18, x6
+    .word 0x025b8423  # sb x5, 40(x23)
+    .word 0x003b1313  # slli x6, x22, 3
+    .word 0x006852b3  # srl x5, x16, x6
+    .word 0x025b8623  # sb x5, 44(x23)
+    .word 0x001b0b13  # addi x22, x22, 1
+    .word 0x002b0bb3  # add x23, x22, x2
+    .word 0x004b3293  # sltiu x5, x22, 4
     .word 0xfc029ee3  # bne x5, x0, -36
-    .word 0xfffa8a93  # addi x21, x21, -1
-    .word 0x002a8b33  # add x22, x21, x2
+    .word 0xfffb0b13  # addi x22, x22, -1
+    .word 0x002b0bb3  # add x23, x22, x2
     # the result
     .word 0x00000513  # addi x10, x0, 0
     # parameter 2: the array, back
-    .word 0x06c12283  # lw x5, 108(x2)
-    .word 0x02810313  # addi x6, x2, 40
+    .word 0x02810293  # addi x5, x2, 40
+    .word 0x06c12303  # lw x6, 108(x2)
     .word 0x00828393  # addi x7, x5, 8
-    .word 0x00034e03  # lbu x28, 0(x6)
-    .word 0x01c28023  # sb x28, 0(x5)
+    .word 0x0002ce03  # lbu x28, 0(x5)
+    .word 0x01c30023  # sb x28, 0(x6)
     .word 0x00128293  # addi x5, x5, 1
     .word 0x00130313  # addi x6, x6, 1
     .word 0xfe7298e3  # bne x5, x7, -16
     # above the frame
     .word 0x04010293  # addi x5, x2, 64
     # the caller's registers
-    .word 0x0002a483  # lw x9, 0(x5)
-    .cfi_restore 9
-    .word 0x0042a903  # lw x18, 4(x5)
+    .word 0x0002a903  # lw x18, 0(x5)
     .cfi_restore 18
-    .word 0x0082a983  # lw x19, 8(x5)
+    .word 0x0042a983  # lw x19, 4(x5)
     .cfi_restore 19
-    .word 0x00c2aa03  # lw x20, 12(x5)
+    .word 0x0082aa03  # lw x20, 8(x5)
     .cfi_restore 20
-    .word 0x0102aa83  # lw x21, 16(x5)
+    .word 0x00c2aa83  # lw x21, 12(x5)
     .cfi_restore 21
-    .word 0x0142ab03  # lw x22, 20(x5)
+    .word 0x0102ab03  # lw x22, 16(x5)
     .cfi_restore 22
+    .word 0x0142ab83  # lw x23, 20(x5)
+    .cfi_restore 23
     # the caller's x2
     .word 0x03028293  # addi x5, x5, 48
     .cfi_def_cfa 5, 0

@@ -1,4 +1,4 @@
-# sort_pairs_16: made by factc 1.0.0 function; 158 words, 208 bytes of stack, profile 1
+# sort_pairs_16: made by factc 1.0.0 function; 142 words, 208 bytes of stack, profile 1
     .option push
     .option norvc
     .option norelax
@@ -13,26 +13,26 @@ sort_pairs_16:
     .word 0xfd010113  # addi x2, x2, -48
     .cfi_def_cfa_offset 48
     # the caller's registers
-    .word 0x00912023  # sw x9, 0(x2)
-    .cfi_offset 9, -48
-    .word 0x01212223  # sw x18, 4(x2)
-    .cfi_offset 18, -44
-    .word 0x01312423  # sw x19, 8(x2)
-    .cfi_offset 19, -40
-    .word 0x01412623  # sw x20, 12(x2)
-    .cfi_offset 20, -36
-    .word 0x01512823  # sw x21, 16(x2)
-    .cfi_offset 21, -32
-    .word 0x01612a23  # sw x22, 20(x2)
-    .cfi_offset 22, -28
-    .word 0x01712c23  # sw x23, 24(x2)
-    .cfi_offset 23, -24
-    .word 0x01812e23  # sw x24, 28(x2)
-    .cfi_offset 24, -20
-    .word 0x03912023  # sw x25, 32(x2)
-    .cfi_offset 25, -16
-    .word 0x03a12223  # sw x26, 36(x2)
-    .cfi_offset 26, -12
+    .word 0x01212023  # sw x18, 0(x2)
+    .cfi_offset 18, -48
+    .word 0x01312223  # sw x19, 4(x2)
+    .cfi_offset 19, -44
+    .word 0x01412423  # sw x20, 8(x2)
+    .cfi_offset 20, -40
+    .word 0x01512623  # sw x21, 12(x2)
+    .cfi_offset 21, -36
+    .word 0x01612823  # sw x22, 16(x2)
+    .cfi_offset 22, -32
+    .word 0x01712a23  # sw x23, 20(x2)
+    .cfi_offset 23, -28
+    .word 0x01812c23  # sw x24, 24(x2)
+    .cfi_offset 24, -24
+    .word 0x01912e23  # sw x25, 28(x2)
+    .cfi_offset 25, -20
+    .word 0x03a12023  # sw x26, 32(x2)
+    .cfi_offset 26, -16
+    .word 0x03b12223  # sw x27, 36(x2)
+    .cfi_offset 27, -12
     # arguments that are needed behind the body
     .word 0x02a12423  # sw x10, 40(x2)
     .word 0x02b12623  # sw x11, 44(x2)
@@ -58,127 +58,111 @@ sort_pairs_16:
     .word 0x00430313  # addi x6, x6, 4
     .word 0xfe7298e3  # bne x5, x7, -16
     # the body
+    .word 0x00000613  # addi x12, x0, 0
+    .word 0x00000713  # addi x14, x0, 0
+    .word 0x00100513  # addi x10, x0, 1
     .word 0x00000593  # addi x11, x0, 0
     .word 0x00000613  # addi x12, x0, 0
-    .word 0x00000693  # addi x13, x0, 0
-    .word 0x00000713  # addi x14, x0, 0
-    .word 0x00000793  # addi x15, x0, 0
-    .word 0x00000813  # addi x16, x0, 0
-    .word 0x00000893  # addi x17, x0, 0
-    .word 0x00000913  # addi x18, x0, 0
-    .word 0x00000993  # addi x19, x0, 0
-    .word 0x00000a13  # addi x20, x0, 0
-    .word 0x00000a93  # addi x21, x0, 0
-    .word 0x00000b13  # addi x22, x0, 0
-    .word 0x00000b93  # addi x23, x0, 0
-    .word 0x00000c13  # addi x24, x0, 0
-    .word 0x00271c93  # slli x25, x14, 2
-    .word 0x002c8cb3  # add x25, x25, x2
-    .word 0x00279d13  # slli x26, x15, 2
-    .word 0x002d0d33  # add x26, x26, x2
-    .word 0x00100493  # addi x9, x0, 1
-    .word 0x00000513  # addi x10, x0, 0
-    .word 0x00000593  # addi x11, x0, 0
     .word 0x00100293  # addi x5, x0, 1
-    .word 0x00a29633  # sll x12, x5, x10
-    .word 0x00000693  # addi x13, x0, 0
-    .word 0x00a6d2b3  # srl x5, x13, x10
-    .word 0x00150313  # addi x6, x10, 1
+    .word 0x00b296b3  # sll x13, x5, x11
+    .word 0x00000713  # addi x14, x0, 0
+    .word 0x00b752b3  # srl x5, x14, x11
+    .word 0x00158313  # addi x6, x11, 1
     .word 0x006292b3  # sll x5, x5, x6
-    .word 0xfff60393  # addi x7, x12, -1
-    .word 0x0076f333  # and x6, x13, x7
+    .word 0xfff68393  # addi x7, x13, -1
+    .word 0x00777333  # and x6, x14, x7
     .word 0x0062e2b3  # or x5, x5, x6
-    .word 0x00f2f713  # andi x14, x5, 15
-    .word 0x00271c93  # slli x25, x14, 2
-    .word 0x002c8cb3  # add x25, x25, x2
-    .word 0x00c762b3  # or x5, x14, x12
     .word 0x00f2f793  # andi x15, x5, 15
     .word 0x00279d13  # slli x26, x15, 2
     .word 0x002d0d33  # add x26, x26, x2
-    .word 0x000ca803  # lw x16, 0(x25)
+    .word 0x00d7e2b3  # or x5, x15, x13
+    .word 0x00f2f813  # andi x16, x5, 15
+    .word 0x00281d93  # slli x27, x16, 2
+    .word 0x002d8db3  # add x27, x27, x2
     .word 0x000d2883  # lw x17, 0(x26)
-    .word 0x040ca903  # lw x18, 64(x25)
+    .word 0x000da903  # lw x18, 0(x27)
     .word 0x040d2983  # lw x19, 64(x26)
-    .word 0x0108b2b3  # sltu x5, x17, x16
-    .word 0x41088333  # sub x6, x17, x16
+    .word 0x040daa03  # lw x20, 64(x27)
+    .word 0x011932b3  # sltu x5, x18, x17
+    .word 0x41190333  # sub x6, x18, x17
     .word 0x00133313  # sltiu x6, x6, 1
-    .word 0x0129b3b3  # sltu x7, x19, x18
+    .word 0x013a33b3  # sltu x7, x20, x19
     .word 0x00737333  # and x6, x6, x7
-    .word 0x0062ea33  # or x20, x5, x6
-    .word 0x009752b3  # srl x5, x14, x9
-    .word 0x0012fa93  # andi x21, x5, 1
-    .word 0x015a42b3  # xor x5, x20, x21
-    .word 0x40500b33  # sub x22, x0, x5
-    .word 0x01184333  # xor x6, x16, x17
-    .word 0x006b7bb3  # and x23, x22, x6
-    .word 0x01394333  # xor x6, x18, x19
-    .word 0x006b7b33  # and x22, x22, x6
-    .word 0x017842b3  # xor x5, x16, x23
-    .word 0x005ca023  # sw x5, 0(x25)
-    .word 0x0178c2b3  # xor x5, x17, x23
+    .word 0x0062eab3  # or x21, x5, x6
+    .word 0x00a7d2b3  # srl x5, x15, x10
+    .word 0x0012fb13  # andi x22, x5, 1
+    .word 0x016ac2b3  # xor x5, x21, x22
+    .word 0x40500bb3  # sub x23, x0, x5
+    .word 0x0128c333  # xor x6, x17, x18
+    .word 0x006bfc33  # and x24, x23, x6
+    .word 0x0149c333  # xor x6, x19, x20
+    .word 0x006bfbb3  # and x23, x23, x6
+    .word 0x0188c2b3  # xor x5, x17, x24
     .word 0x005d2023  # sw x5, 0(x26)
-    .word 0x016942b3  # xor x5, x18, x22
-    .word 0x045ca023  # sw x5, 64(x25)
-    .word 0x0169c2b3  # xor x5, x19, x22
+    .word 0x018942b3  # xor x5, x18, x24
+    .word 0x005da023  # sw x5, 0(x27)
+    .word 0x0179c2b3  # xor x5, x19, x23
     .word 0x045d2023  # sw x5, 64(x26)
-    .word 0x00168693  # addi x13, x13, 1
-    .word 0x0086b293  # sltiu x5, x13, 8
+    .word 0x017a42b3  # xor x5, x20, x23
+    .word 0x045da023  # sw x5, 64(x27)
+    .word 0x00170713  # addi x14, x14, 1
+    .word 0x00873293  # sltiu x5, x14, 8
     .word 0xf4029ee3  # bne x5, x0, -164
-    .word 0xfff68693  # addi x13, x13, -1
-    .word 0x00153c13  # sltiu x24, x10, 1
-    .word 0xfff50393  # addi x7, x10, -1
-    .word 0x418002b3  # sub x5, x0, x24
-    .word 0x0074c333  # xor x6, x9, x7
+    .word 0xfff70713  # addi x14, x14, -1
+    .word 0x0015bc93  # sltiu x25, x11, 1
+    .word 0xfff58393  # addi x7, x11, -1
+    .word 0x419002b3  # sub x5, x0, x25
+    .word 0x00754333  # xor x6, x10, x7
     .word 0x00537333  # and x6, x6, x5
-    .word 0x0063c533  # xor x10, x7, x6
-    .word 0x018484b3  # add x9, x9, x24
-    .word 0x00158593  # addi x11, x11, 1
-    .word 0x00a5b293  # sltiu x5, x11, 10
+    .word 0x0063c5b3  # xor x11, x7, x6
+    .word 0x01950533  # add x10, x10, x25
+    .word 0x00160613  # addi x12, x12, 1
+    .word 0x00a63293  # sltiu x5, x12, 10
     .word 0xf20292e3  # bne x5, x0, -220
-    .word 0xfff58593  # addi x11, x11, -1
+    .word 0xfff60613  # addi x12, x12, -1
     # the result
     .word 0x00000513  # addi x10, x0, 0
     # parameter 0: the array, back
-    .word 0x0c812283  # lw x5, 200(x2)
-    .word 0x00010313  # addi x6, x2, 0
+    .word 0x00010293  # addi x5, x2, 0
+    .word 0x0c812303  # lw x6, 200(x2)
     .word 0x04028393  # addi x7, x5, 64
-    .word 0x00032e03  # lw x28, 0(x6)
-    .word 0x01c2a023  # sw x28, 0(x5)
+    .word 0x0002ae03  # lw x28, 0(x5)
+    .word 0x01c32023  # sw x28, 0(x6)
     .word 0x00428293  # addi x5, x5, 4
     .word 0x00430313  # addi x6, x6, 4
     .word 0xfe7298e3  # bne x5, x7, -16
     # parameter 1: the array, back
-    .word 0x0cc12283  # lw x5, 204(x2)
-    .word 0x04010313  # addi x6, x2, 64
+    .word 0x04010293  # addi x5, x2, 64
+    .word 0x0cc12303  # lw x6, 204(x2)
     .word 0x04028393  # addi x7, x5, 64
-    .word 0x00032e03  # lw x28, 0(x6)
-    .word 0x01c2a023  # sw x28, 0(x5)
+    .word 0x0002ae03  # lw x28, 0(x5)
+    .word 0x01c32023  # sw x28, 0(x6)
     .word 0x00428293  # addi x5, x5, 4
     .word 0x00430313  # addi x6, x6, 4
     .word 0xfe7298e3  # bne x5, x7, -16
     # above the frame
     .word 0x0a010293  # addi x5, x2, 160
     # the caller's registers
-    .word 0x0002a483  # lw x9, 0(x5)
-    .cfi_restore 9
-    .word 0x0042a903  # lw x18, 4(x5)
+    .word 0x0002a903  # lw x18, 0(x5)
     .cfi_restore 18
-    .word 0x0082a983  # lw x19, 8(x5)
+    .word 0x0042a983  # lw x19, 4(x5)
     .cfi_restore 19
-    .word 0x00c2aa03  # lw x20, 12(x5)
+    .word 0x0082aa03  # lw x20, 8(x5)
     .cfi_restore 20
-    .word 0x0102aa83  # lw x21, 16(x5)
+    .word 0x00c2aa83  # lw x21, 12(x5)
     .cfi_restore 21
-    .word 0x0142ab03  # lw x22, 20(x5)
+    .word 0x0102ab03  # lw x22, 16(x5)
     .cfi_restore 22
-    .word 0x0182ab83  # lw x23, 24(x5)
+    .word 0x0142ab83  # lw x23, 20(x5)
     .cfi_restore 23
-    .word 0x01c2ac03  # lw x24, 28(x5)
+    .word 0x0182ac03  # lw x24, 24(x5)
     .cfi_restore 24
-    .word 0x0202ac83  # lw x25, 32(x5)
+    .word 0x01c2ac83  # lw x25, 28(x5)
     .cfi_restore 25
-    .word 0x0242ad03  # lw x26, 36(x5)
+    .word 0x0202ad03  # lw x26, 32(x5)
     .cfi_restore 26
+    .word 0x0242ad83  # lw x27, 36(x5)
+    .cfi_restore 27
     # the caller's x2
     .word 0x03028293  # addi x5, x5, 48
     .cfi_def_cfa 5, 0

@@ -1,4 +1,4 @@
-# speck64_decrypt: made by factc 1.0.0 function; 164 words, 64 bytes of stack, profile 1
+# speck64_decrypt: made by factc 1.0.0 function; 161 words, 64 bytes of stack, profile 1
     .option push
     .option norvc
     .option norelax
@@ -13,10 +13,8 @@ speck64_decrypt:
     .word 0xff010113  # addi x2, x2, -16
     .cfi_def_cfa_offset 16
     # the caller's registers
-    .word 0x00812023  # sw x8, 0(x2)
-    .cfi_offset 8, -16
-    .word 0x00912223  # sw x9, 4(x2)
-    .cfi_offset 9, -12
+    .word 0x01212023  # sw x18, 0(x2)
+    .cfi_offset 18, -16
     # arguments that are needed behind the body
     .word 0x00a12423  # sw x10, 8(x2)
     .word 0x00b12623  # sw x11, 12(x2)
@@ -40,134 +38,131 @@ speck64_decrypt:
     .word 0x0042ae03  # lw x28, 4(x5)
     .word 0x01c32223  # sw x28, 4(x6)
     # the body
-    .word 0x00000713  # addi x14, x0, 0
-    .word 0x00000793  # addi x15, x0, 0
     .word 0x00000813  # addi x16, x0, 0
-    .word 0x01012403  # lw x8, 16(x2)
-    .word 0x01412483  # lw x9, 20(x2)
-    .word 0x00c12503  # lw x10, 12(x2)
-    .word 0x00812583  # lw x11, 8(x2)
-    .word 0x00412603  # lw x12, 4(x2)
-    .word 0x00012683  # lw x13, 0(x2)
-    .word 0x00000713  # addi x14, x0, 0
+    .word 0x00000913  # addi x18, x0, 0
+    .word 0x01012503  # lw x10, 16(x2)
+    .word 0x01412583  # lw x11, 20(x2)
+    .word 0x00c12603  # lw x12, 12(x2)
+    .word 0x00812683  # lw x13, 8(x2)
+    .word 0x00412703  # lw x14, 4(x2)
+    .word 0x00012783  # lw x15, 0(x2)
+    .word 0x00000813  # addi x16, x0, 0
     .word 0x00300293  # addi x5, x0, 3
-    .word 0x02e287b3  # mul x15, x5, x14
-    .word 0x01859f13  # slli x30, x11, 24
-    .word 0x0085d293  # srli x5, x11, 8
-    .word 0x005f02b3  # add x5, x30, x5
-    .word 0x00a282b3  # add x5, x5, x10
-    .word 0x00f2c5b3  # xor x11, x5, x15
-    .word 0x00351f13  # slli x30, x10, 3
-    .word 0x01d55293  # srli x5, x10, 29
-    .word 0x005f02b3  # add x5, x30, x5
-    .word 0x00b2c533  # xor x10, x5, x11
-    .word 0x01861f13  # slli x30, x12, 24
-    .word 0x00865293  # srli x5, x12, 8
-    .word 0x005f02b3  # add x5, x30, x5
-    .word 0x00a282b3  # add x5, x5, x10
-    .word 0x00178313  # addi x6, x15, 1
-    .word 0x0062c633  # xor x12, x5, x6
-    .word 0x00351f13  # slli x30, x10, 3
-    .word 0x01d55293  # srli x5, x10, 29
-    .word 0x005f02b3  # add x5, x30, x5
-    .word 0x00c2c533  # xor x10, x5, x12
+    .word 0x030288b3  # mul x17, x5, x16
     .word 0x01869f13  # slli x30, x13, 24
     .word 0x0086d293  # srli x5, x13, 8
     .word 0x005f02b3  # add x5, x30, x5
-    .word 0x00a282b3  # add x5, x5, x10
-    .word 0x00278313  # addi x6, x15, 2
-    .word 0x0062c6b3  # xor x13, x5, x6
-    .word 0x00351f13  # slli x30, x10, 3
-    .word 0x01d55293  # srli x5, x10, 29
+    .word 0x00c282b3  # add x5, x5, x12
+    .word 0x0112c6b3  # xor x13, x5, x17
+    .word 0x00361f13  # slli x30, x12, 3
+    .word 0x01d65293  # srli x5, x12, 29
     .word 0x005f02b3  # add x5, x30, x5
-    .word 0x00d2c533  # xor x10, x5, x13
-    .word 0x00170713  # addi x14, x14, 1
-    .word 0x00973293  # sltiu x5, x14, 9
+    .word 0x00d2c633  # xor x12, x5, x13
+    .word 0x01871f13  # slli x30, x14, 24
+    .word 0x00875293  # srli x5, x14, 8
+    .word 0x005f02b3  # add x5, x30, x5
+    .word 0x00c282b3  # add x5, x5, x12
+    .word 0x00188313  # addi x6, x17, 1
+    .word 0x0062c733  # xor x14, x5, x6
+    .word 0x00361f13  # slli x30, x12, 3
+    .word 0x01d65293  # srli x5, x12, 29
+    .word 0x005f02b3  # add x5, x30, x5
+    .word 0x00e2c633  # xor x12, x5, x14
+    .word 0x01879f13  # slli x30, x15, 24
+    .word 0x0087d293  # srli x5, x15, 8
+    .word 0x005f02b3  # add x5, x30, x5
+    .word 0x00c282b3  # add x5, x5, x12
+    .word 0x00288313  # addi x6, x17, 2
+    .word 0x0062c7b3  # xor x15, x5, x6
+    .word 0x00361f13  # slli x30, x12, 3
+    .word 0x01d65293  # srli x5, x12, 29
+    .word 0x005f02b3  # add x5, x30, x5
+    .word 0x00f2c633  # xor x12, x5, x15
+    .word 0x00180813  # addi x16, x16, 1
+    .word 0x00983293  # sltiu x5, x16, 9
     .word 0xf6029ee3  # bne x5, x0, -132
-    .word 0xfff70713  # addi x14, x14, -1
-    .word 0x00000813  # addi x16, x0, 0
+    .word 0xfff80813  # addi x16, x16, -1
+    .word 0x00000913  # addi x18, x0, 0
     .word 0x01800293  # addi x5, x0, 24
     .word 0x00300313  # addi x6, x0, 3
-    .word 0x03030333  # mul x6, x6, x16
-    .word 0x406287b3  # sub x15, x5, x6
-    .word 0x00d542b3  # xor x5, x10, x13
+    .word 0x03230333  # mul x6, x6, x18
+    .word 0x406288b3  # sub x17, x5, x6
+    .word 0x00f642b3  # xor x5, x12, x15
     .word 0x01d29f13  # slli x30, x5, 29
-    .word 0x0032d513  # srli x10, x5, 3
+    .word 0x0032d613  # srli x12, x5, 3
+    .word 0x00cf0633  # add x12, x30, x12
+    .word 0x00288313  # addi x6, x17, 2
+    .word 0x0067c2b3  # xor x5, x15, x6
+    .word 0x40c282b3  # sub x5, x5, x12
+    .word 0x00829f13  # slli x30, x5, 8
+    .word 0x0182d793  # srli x15, x5, 24
+    .word 0x00ff07b3  # add x15, x30, x15
+    .word 0x00b542b3  # xor x5, x10, x11
+    .word 0x01d29f13  # slli x30, x5, 29
+    .word 0x0032d593  # srli x11, x5, 3
+    .word 0x00bf05b3  # add x11, x30, x11
+    .word 0x00c542b3  # xor x5, x10, x12
+    .word 0x40b282b3  # sub x5, x5, x11
+    .word 0x00829f13  # slli x30, x5, 8
+    .word 0x0182d513  # srli x10, x5, 24
     .word 0x00af0533  # add x10, x30, x10
-    .word 0x00278313  # addi x6, x15, 2
-    .word 0x0066c2b3  # xor x5, x13, x6
-    .word 0x40a282b3  # sub x5, x5, x10
+    .word 0x00e642b3  # xor x5, x12, x14
+    .word 0x01d29f13  # slli x30, x5, 29
+    .word 0x0032d613  # srli x12, x5, 3
+    .word 0x00cf0633  # add x12, x30, x12
+    .word 0x00188313  # addi x6, x17, 1
+    .word 0x006742b3  # xor x5, x14, x6
+    .word 0x40c282b3  # sub x5, x5, x12
+    .word 0x00829f13  # slli x30, x5, 8
+    .word 0x0182d713  # srli x14, x5, 24
+    .word 0x00ef0733  # add x14, x30, x14
+    .word 0x00b542b3  # xor x5, x10, x11
+    .word 0x01d29f13  # slli x30, x5, 29
+    .word 0x0032d593  # srli x11, x5, 3
+    .word 0x00bf05b3  # add x11, x30, x11
+    .word 0x00c542b3  # xor x5, x10, x12
+    .word 0x40b282b3  # sub x5, x5, x11
+    .word 0x00829f13  # slli x30, x5, 8
+    .word 0x0182d513  # srli x10, x5, 24
+    .word 0x00af0533  # add x10, x30, x10
+    .word 0x00d642b3  # xor x5, x12, x13
+    .word 0x01d29f13  # slli x30, x5, 29
+    .word 0x0032d613  # srli x12, x5, 3
+    .word 0x00cf0633  # add x12, x30, x12
+    .word 0x0116c2b3  # xor x5, x13, x17
+    .word 0x40c282b3  # sub x5, x5, x12
     .word 0x00829f13  # slli x30, x5, 8
     .word 0x0182d693  # srli x13, x5, 24
     .word 0x00df06b3  # add x13, x30, x13
-    .word 0x009442b3  # xor x5, x8, x9
-    .word 0x01d29f13  # slli x30, x5, 29
-    .word 0x0032d493  # srli x9, x5, 3
-    .word 0x009f04b3  # add x9, x30, x9
-    .word 0x00a442b3  # xor x5, x8, x10
-    .word 0x409282b3  # sub x5, x5, x9
-    .word 0x00829f13  # slli x30, x5, 8
-    .word 0x0182d413  # srli x8, x5, 24
-    .word 0x008f0433  # add x8, x30, x8
-    .word 0x00c542b3  # xor x5, x10, x12
-    .word 0x01d29f13  # slli x30, x5, 29
-    .word 0x0032d513  # srli x10, x5, 3
-    .word 0x00af0533  # add x10, x30, x10
-    .word 0x00178313  # addi x6, x15, 1
-    .word 0x006642b3  # xor x5, x12, x6
-    .word 0x40a282b3  # sub x5, x5, x10
-    .word 0x00829f13  # slli x30, x5, 8
-    .word 0x0182d613  # srli x12, x5, 24
-    .word 0x00cf0633  # add x12, x30, x12
-    .word 0x009442b3  # xor x5, x8, x9
-    .word 0x01d29f13  # slli x30, x5, 29
-    .word 0x0032d493  # srli x9, x5, 3
-    .word 0x009f04b3  # add x9, x30, x9
-    .word 0x00a442b3  # xor x5, x8, x10
-    .word 0x409282b3  # sub x5, x5, x9
-    .word 0x00829f13  # slli x30, x5, 8
-    .word 0x0182d413  # srli x8, x5, 24
-    .word 0x008f0433  # add x8, x30, x8
     .word 0x00b542b3  # xor x5, x10, x11
     .word 0x01d29f13  # slli x30, x5, 29
-    .word 0x0032d513  # srli x10, x5, 3
-    .word 0x00af0533  # add x10, x30, x10
-    .word 0x00f5c2b3  # xor x5, x11, x15
-    .word 0x40a282b3  # sub x5, x5, x10
-    .word 0x00829f13  # slli x30, x5, 8
-    .word 0x0182d593  # srli x11, x5, 24
+    .word 0x0032d593  # srli x11, x5, 3
     .word 0x00bf05b3  # add x11, x30, x11
-    .word 0x009442b3  # xor x5, x8, x9
-    .word 0x01d29f13  # slli x30, x5, 29
-    .word 0x0032d493  # srli x9, x5, 3
-    .word 0x009f04b3  # add x9, x30, x9
-    .word 0x00a442b3  # xor x5, x8, x10
-    .word 0x409282b3  # sub x5, x5, x9
+    .word 0x00c542b3  # xor x5, x10, x12
+    .word 0x40b282b3  # sub x5, x5, x11
     .word 0x00829f13  # slli x30, x5, 8
-    .word 0x0182d413  # srli x8, x5, 24
-    .word 0x008f0433  # add x8, x30, x8
-    .word 0x00180813  # addi x16, x16, 1
-    .word 0x00983293  # sltiu x5, x16, 9
+    .word 0x0182d513  # srli x10, x5, 24
+    .word 0x00af0533  # add x10, x30, x10
+    .word 0x00190913  # addi x18, x18, 1
+    .word 0x00993293  # sltiu x5, x18, 9
     .word 0xf00294e3  # bne x5, x0, -248
-    .word 0xfff80813  # addi x16, x16, -1
-    .word 0x00812823  # sw x8, 16(x2)
-    .word 0x00912a23  # sw x9, 20(x2)
+    .word 0xfff90913  # addi x18, x18, -1
+    .word 0x00a12823  # sw x10, 16(x2)
+    .word 0x00b12a23  # sw x11, 20(x2)
     # the result
     .word 0x00000513  # addi x10, x0, 0
     # parameter 1: the array, back
-    .word 0x03c12283  # lw x5, 60(x2)
-    .word 0x01010313  # addi x6, x2, 16
-    .word 0x00032e03  # lw x28, 0(x6)
-    .word 0x01c2a023  # sw x28, 0(x5)
-    .word 0x00432e03  # lw x28, 4(x6)
-    .word 0x01c2a223  # sw x28, 4(x5)
+    .word 0x01010293  # addi x5, x2, 16
+    .word 0x03c12303  # lw x6, 60(x2)
+    .word 0x0002ae03  # lw x28, 0(x5)
+    .word 0x01c32023  # sw x28, 0(x6)
+    .word 0x0042ae03  # lw x28, 4(x5)
+    .word 0x01c32223  # sw x28, 4(x6)
     # above the frame
     .word 0x03010293  # addi x5, x2, 48
     # the caller's registers
-    .word 0x0002a403  # lw x8, 0(x5)
-    .cfi_restore 8
-    .word 0x0042a483  # lw x9, 4(x5)
-    .cfi_restore 9
+    .word 0x0002a903  # lw x18, 0(x5)
+    .cfi_restore 18
     # the caller's x2
     .word 0x01028293  # addi x5, x5, 16
     .cfi_def_cfa 5, 0

@@ -1,4 +1,4 @@
-# speck64_encrypt: made by factc 1.0.0 function; 125 words, 64 bytes of stack, profile 1
+# speck64_encrypt: made by factc 1.0.0 function; 120 words, 64 bytes of stack, profile 1
     .option push
     .option norvc
     .option norelax
@@ -13,10 +13,6 @@ speck64_encrypt:
     .word 0xff010113  # addi x2, x2, -16
     .cfi_def_cfa_offset 16
     # the caller's registers
-    .word 0x00812023  # sw x8, 0(x2)
-    .cfi_offset 8, -16
-    .word 0x00912223  # sw x9, 4(x2)
-    .cfi_offset 9, -12
     # arguments that are needed behind the body
     .word 0x00a12423  # sw x10, 8(x2)
     .word 0x00b12623  # sw x11, 12(x2)
@@ -40,95 +36,90 @@ speck64_encrypt:
     .word 0x0042ae03  # lw x28, 4(x5)
     .word 0x01c32223  # sw x28, 4(x6)
     # the body
-    .word 0x00000713  # addi x14, x0, 0
-    .word 0x00000793  # addi x15, x0, 0
-    .word 0x01012403  # lw x8, 16(x2)
-    .word 0x01412483  # lw x9, 20(x2)
-    .word 0x00c12503  # lw x10, 12(x2)
-    .word 0x00812583  # lw x11, 8(x2)
-    .word 0x00412603  # lw x12, 4(x2)
-    .word 0x00012683  # lw x13, 0(x2)
-    .word 0x00000713  # addi x14, x0, 0
+    .word 0x00000813  # addi x16, x0, 0
+    .word 0x01012503  # lw x10, 16(x2)
+    .word 0x01412583  # lw x11, 20(x2)
+    .word 0x00c12603  # lw x12, 12(x2)
+    .word 0x00812683  # lw x13, 8(x2)
+    .word 0x00412703  # lw x14, 4(x2)
+    .word 0x00012783  # lw x15, 0(x2)
+    .word 0x00000813  # addi x16, x0, 0
     .word 0x00300293  # addi x5, x0, 3
-    .word 0x02e287b3  # mul x15, x5, x14
-    .word 0x01841f13  # slli x30, x8, 24
-    .word 0x00845293  # srli x5, x8, 8
+    .word 0x030288b3  # mul x17, x5, x16
+    .word 0x01851f13  # slli x30, x10, 24
+    .word 0x00855293  # srli x5, x10, 8
     .word 0x005f02b3  # add x5, x30, x5
-    .word 0x009282b3  # add x5, x5, x9
-    .word 0x00a2c433  # xor x8, x5, x10
-    .word 0x00349f13  # slli x30, x9, 3
-    .word 0x01d4d293  # srli x5, x9, 29
-    .word 0x005f02b3  # add x5, x30, x5
-    .word 0x0082c4b3  # xor x9, x5, x8
-    .word 0x01859f13  # slli x30, x11, 24
-    .word 0x0085d293  # srli x5, x11, 8
-    .word 0x005f02b3  # add x5, x30, x5
-    .word 0x00a282b3  # add x5, x5, x10
-    .word 0x00f2c5b3  # xor x11, x5, x15
-    .word 0x00351f13  # slli x30, x10, 3
-    .word 0x01d55293  # srli x5, x10, 29
-    .word 0x005f02b3  # add x5, x30, x5
-    .word 0x00b2c533  # xor x10, x5, x11
-    .word 0x01841f13  # slli x30, x8, 24
-    .word 0x00845293  # srli x5, x8, 8
-    .word 0x005f02b3  # add x5, x30, x5
-    .word 0x009282b3  # add x5, x5, x9
-    .word 0x00a2c433  # xor x8, x5, x10
-    .word 0x00349f13  # slli x30, x9, 3
-    .word 0x01d4d293  # srli x5, x9, 29
-    .word 0x005f02b3  # add x5, x30, x5
-    .word 0x0082c4b3  # xor x9, x5, x8
-    .word 0x01861f13  # slli x30, x12, 24
-    .word 0x00865293  # srli x5, x12, 8
-    .word 0x005f02b3  # add x5, x30, x5
-    .word 0x00a282b3  # add x5, x5, x10
-    .word 0x00178313  # addi x6, x15, 1
-    .word 0x0062c633  # xor x12, x5, x6
-    .word 0x00351f13  # slli x30, x10, 3
-    .word 0x01d55293  # srli x5, x10, 29
-    .word 0x005f02b3  # add x5, x30, x5
+    .word 0x00b282b3  # add x5, x5, x11
     .word 0x00c2c533  # xor x10, x5, x12
-    .word 0x01841f13  # slli x30, x8, 24
-    .word 0x00845293  # srli x5, x8, 8
+    .word 0x00359f13  # slli x30, x11, 3
+    .word 0x01d5d293  # srli x5, x11, 29
     .word 0x005f02b3  # add x5, x30, x5
-    .word 0x009282b3  # add x5, x5, x9
-    .word 0x00a2c433  # xor x8, x5, x10
-    .word 0x00349f13  # slli x30, x9, 3
-    .word 0x01d4d293  # srli x5, x9, 29
-    .word 0x005f02b3  # add x5, x30, x5
-    .word 0x0082c4b3  # xor x9, x5, x8
+    .word 0x00a2c5b3  # xor x11, x5, x10
     .word 0x01869f13  # slli x30, x13, 24
     .word 0x0086d293  # srli x5, x13, 8
     .word 0x005f02b3  # add x5, x30, x5
-    .word 0x00a282b3  # add x5, x5, x10
-    .word 0x00278313  # addi x6, x15, 2
-    .word 0x0062c6b3  # xor x13, x5, x6
-    .word 0x00351f13  # slli x30, x10, 3
-    .word 0x01d55293  # srli x5, x10, 29
+    .word 0x00c282b3  # add x5, x5, x12
+    .word 0x0112c6b3  # xor x13, x5, x17
+    .word 0x00361f13  # slli x30, x12, 3
+    .word 0x01d65293  # srli x5, x12, 29
     .word 0x005f02b3  # add x5, x30, x5
-    .word 0x00d2c533  # xor x10, x5, x13
-    .word 0x00170713  # addi x14, x14, 1
-    .word 0x00973293  # sltiu x5, x14, 9
+    .word 0x00d2c633  # xor x12, x5, x13
+    .word 0x01851f13  # slli x30, x10, 24
+    .word 0x00855293  # srli x5, x10, 8
+    .word 0x005f02b3  # add x5, x30, x5
+    .word 0x00b282b3  # add x5, x5, x11
+    .word 0x00c2c533  # xor x10, x5, x12
+    .word 0x00359f13  # slli x30, x11, 3
+    .word 0x01d5d293  # srli x5, x11, 29
+    .word 0x005f02b3  # add x5, x30, x5
+    .word 0x00a2c5b3  # xor x11, x5, x10
+    .word 0x01871f13  # slli x30, x14, 24
+    .word 0x00875293  # srli x5, x14, 8
+    .word 0x005f02b3  # add x5, x30, x5
+    .word 0x00c282b3  # add x5, x5, x12
+    .word 0x00188313  # addi x6, x17, 1
+    .word 0x0062c733  # xor x14, x5, x6
+    .word 0x00361f13  # slli x30, x12, 3
+    .word 0x01d65293  # srli x5, x12, 29
+    .word 0x005f02b3  # add x5, x30, x5
+    .word 0x00e2c633  # xor x12, x5, x14
+    .word 0x01851f13  # slli x30, x10, 24
+    .word 0x00855293  # srli x5, x10, 8
+    .word 0x005f02b3  # add x5, x30, x5
+    .word 0x00b282b3  # add x5, x5, x11
+    .word 0x00c2c533  # xor x10, x5, x12
+    .word 0x00359f13  # slli x30, x11, 3
+    .word 0x01d5d293  # srli x5, x11, 29
+    .word 0x005f02b3  # add x5, x30, x5
+    .word 0x00a2c5b3  # xor x11, x5, x10
+    .word 0x01879f13  # slli x30, x15, 24
+    .word 0x0087d293  # srli x5, x15, 8
+    .word 0x005f02b3  # add x5, x30, x5
+    .word 0x00c282b3  # add x5, x5, x12
+    .word 0x00288313  # addi x6, x17, 2
+    .word 0x0062c7b3  # xor x15, x5, x6
+    .word 0x00361f13  # slli x30, x12, 3
+    .word 0x01d65293  # srli x5, x12, 29
+    .word 0x005f02b3  # add x5, x30, x5
+    .word 0x00f2c633  # xor x12, x5, x15
+    .word 0x00180813  # addi x16, x16, 1
+    .word 0x00983293  # sltiu x5, x16, 9
     .word 0xf00298e3  # bne x5, x0, -240
-    .word 0xfff70713  # addi x14, x14, -1
-    .word 0x00812823  # sw x8, 16(x2)
-    .word 0x00912a23  # sw x9, 20(x2)
+    .word 0xfff80813  # addi x16, x16, -1
+    .word 0x00a12823  # sw x10, 16(x2)
+    .word 0x00b12a23  # sw x11, 20(x2)
     # the result
     .word 0x00000513  # addi x10, x0, 0
     # parameter 1: the array, back
-    .word 0x03c12283  # lw x5, 60(x2)
-    .word 0x01010313  # addi x6, x2, 16
-    .word 0x00032e03  # lw x28, 0(x6)
-    .word 0x01c2a023  # sw x28, 0(x5)
-    .word 0x00432e03  # lw x28, 4(x6)
-    .word 0x01c2a223  # sw x28, 4(x5)
+    .word 0x01010293  # addi x5, x2, 16
+    .word 0x03c12303  # lw x6, 60(x2)
+    .word 0x0002ae03  # lw x28, 0(x5)
+    .word 0x01c32023  # sw x28, 0(x6)
+    .word 0x0042ae03  # lw x28, 4(x5)
+    .word 0x01c32223  # sw x28, 4(x6)
     # above the frame
     .word 0x03010293  # addi x5, x2, 48
     # the caller's registers
-    .word 0x0002a403  # lw x8, 0(x5)
-    .cfi_restore 8
-    .word 0x0042a483  # lw x9, 4(x5)
-    .cfi_restore 9
     # the caller's x2
     .word 0x01028293  # addi x5, x5, 16
     .cfi_def_cfa 5, 0

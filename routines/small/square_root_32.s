@@ -1,4 +1,4 @@
-# square_root_32: made by factc 1.0.0 function; 54 words, 32 bytes of stack, profile 1
+# square_root_32: made by factc 1.0.0 function; 47 words, 16 bytes of stack, profile 1
     .option push
     .option norvc
     .option norelax
@@ -10,54 +10,43 @@
 square_root_32:
     .cfi_startproc
     # room above the frame
-    .word 0xff010113  # addi x2, x2, -16
-    .cfi_def_cfa_offset 16
+    .cfi_def_cfa_offset 0
     # the caller's registers
-    .word 0x00812023  # sw x8, 0(x2)
-    .cfi_offset 8, -16
-    .word 0x00912223  # sw x9, 4(x2)
-    .cfi_offset 9, -12
     # arguments that are needed behind the body
     # the frame's base
     .word 0xff010113  # addi x2, x2, -16
-    .cfi_def_cfa 2, 32
+    .cfi_def_cfa 2, 16
     # parameter 0: a word
     .word 0x00a12023  # sw x10, 0(x2)
     # the body
-    .word 0x00012403  # lw x8, 0(x2)
-    .word 0x00000613  # addi x12, x0, 0
-    .word 0x00000693  # addi x13, x0, 0
+    .word 0x00012503  # lw x10, 0(x2)
     .word 0x00000713  # addi x14, x0, 0
-    .word 0x00040493  # addi x9, x8, 0
-    .word 0x00000513  # addi x10, x0, 0
-    .word 0x400005b7  # lui x11, 0x40000
-    .word 0x00058593  # addi x11, x11, 0
+    .word 0x00050593  # addi x11, x10, 0
     .word 0x00000613  # addi x12, x0, 0
-    .word 0x00b506b3  # add x13, x10, x11
-    .word 0x00d4b2b3  # sltu x5, x9, x13
-    .word 0xfff28713  # addi x14, x5, -1
-    .word 0x00e6f333  # and x6, x13, x14
-    .word 0x406484b3  # sub x9, x9, x6
-    .word 0x00155293  # srli x5, x10, 1
-    .word 0x00e5f333  # and x6, x11, x14
-    .word 0x00628533  # add x10, x5, x6
-    .word 0x0025d593  # srli x11, x11, 2
-    .word 0x00160613  # addi x12, x12, 1
-    .word 0x01063293  # sltiu x5, x12, 16
+    .word 0x400006b7  # lui x13, 0x40000
+    .word 0x00068693  # addi x13, x13, 0
+    .word 0x00000713  # addi x14, x0, 0
+    .word 0x00d607b3  # add x15, x12, x13
+    .word 0x00f5b2b3  # sltu x5, x11, x15
+    .word 0xfff28813  # addi x16, x5, -1
+    .word 0x0107f333  # and x6, x15, x16
+    .word 0x406585b3  # sub x11, x11, x6
+    .word 0x00165293  # srli x5, x12, 1
+    .word 0x0106f333  # and x6, x13, x16
+    .word 0x00628633  # add x12, x5, x6
+    .word 0x0026d693  # srli x13, x13, 2
+    .word 0x00170713  # addi x14, x14, 1
+    .word 0x01073293  # sltiu x5, x14, 16
     .word 0xfc029ae3  # bne x5, x0, -44
-    .word 0xfff60613  # addi x12, x12, -1
-    .word 0x00a12223  # sw x10, 4(x2)
+    .word 0xfff70713  # addi x14, x14, -1
+    .word 0x00c12223  # sw x12, 4(x2)
     # the result
     .word 0x00412503  # lw x10, 4(x2)
     # above the frame
     .word 0x01010293  # addi x5, x2, 16
     # the caller's registers
-    .word 0x0002a403  # lw x8, 0(x5)
-    .cfi_restore 8
-    .word 0x0042a483  # lw x9, 4(x5)
-    .cfi_restore 9
     # the caller's x2
-    .word 0x01028293  # addi x5, x5, 16
+    .word 0x00028293  # addi x5, x5, 0
     .cfi_def_cfa 5, 0
     # all the room, wiped upward
     .word 0x00012023  # sw x0, 0(x2)

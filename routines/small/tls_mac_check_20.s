@@ -1,4 +1,4 @@
-# tls_mac_check_20: made by factc 1.0.0 function; 284 words, 448 bytes of stack, profile 1
+# tls_mac_check_20: made by factc 1.0.0 function; 276 words, 448 bytes of stack, profile 1
     .option push
     .option norvc
     .option norelax
@@ -59,21 +59,13 @@ tls_mac_check_20:
     .word 0xfe7298e3  # bne x5, x7, -16
     # the body
     .word 0x00000513  # addi x10, x0, 0
-    .word 0x00000593  # addi x11, x0, 0
-    .word 0x00000613  # addi x12, x0, 0
     .word 0x00000693  # addi x13, x0, 0
-    .word 0x00000713  # addi x14, x0, 0
-    .word 0x00000793  # addi x15, x0, 0
-    .word 0x00000813  # addi x16, x0, 0
-    .word 0x00000893  # addi x17, x0, 0
     .word 0x00000913  # addi x18, x0, 0
     .word 0x00000993  # addi x19, x0, 0
     .word 0x00000a13  # addi x20, x0, 0
     .word 0x00000a93  # addi x21, x0, 0
     .word 0x00000b13  # addi x22, x0, 0
     .word 0x00000b93  # addi x23, x0, 0
-    .word 0x00279c13  # slli x24, x15, 2
-    .word 0x002c0c33  # add x24, x24, x2
     .word 0x00299c93  # slli x25, x19, 2
     .word 0x002c8cb3  # add x25, x25, x2
     .word 0x002a1d13  # slli x26, x20, 2

@@ -1,4 +1,4 @@
-# tls_mac_check_32: made by factc 1.0.0 function; 290 words, 480 bytes of stack, profile 1
+# tls_mac_check_32: made by factc 1.0.0 function; 285 words, 480 bytes of stack, profile 1
     .option push
     .option norvc
     .option norelax
@@ -59,12 +59,7 @@ tls_mac_check_32:
     .word 0xfe7298e3  # bne x5, x7, -16
     # the body
     .word 0x00000593  # addi x11, x0, 0
-    .word 0x00000613  # addi x12, x0, 0
-    .word 0x00000693  # addi x13, x0, 0
     .word 0x00000713  # addi x14, x0, 0
-    .word 0x00000793  # addi x15, x0, 0
-    .word 0x00000813  # addi x16, x0, 0
-    .word 0x00000893  # addi x17, x0, 0
     .word 0x00000913  # addi x18, x0, 0
     .word 0x00000993  # addi x19, x0, 0
     .word 0x00000a13  # addi x20, x0, 0

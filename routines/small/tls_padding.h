@@ -6,7 +6,7 @@
 #define FACT_tls_padding_H
 #include <stdbool.h>
 #include <stdint.h>
-#define tls_padding_STACK_BYTES 304
+#define tls_padding_STACK_BYTES 288
 #ifdef __cplusplus
 extern "C" {
 #endif

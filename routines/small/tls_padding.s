@@ -1,4 +1,4 @@
-# tls_padding: made by factc 1.0.0 function; 72 words, 304 bytes of stack, profile 1
+# tls_padding: made by factc 1.0.0 function; 69 words, 288 bytes of stack, profile 1
     .option push
     .option norvc
     .option norelax
@@ -10,15 +10,12 @@
 tls_padding:
     .cfi_startproc
     # room above the frame
-    .word 0xff010113  # addi x2, x2, -16
-    .cfi_def_cfa_offset 16
+    .cfi_def_cfa_offset 0
     # the caller's registers
-    .word 0x00912023  # sw x9, 0(x2)
-    .cfi_offset 9, -16
     # arguments that are needed behind the body
     # the frame's base
     .word 0xee010113  # addi x2, x2, -288
-    .cfi_def_cfa 2, 304
+    .cfi_def_cfa 2, 288
     # parameter 0: an array
     .word 0x00050293  # addi x5, x10, 0
     .word 0x00010313  # addi x6, x2, 0
@@ -33,49 +30,47 @@ tls_padding:
     # parameter 2: a word
     .word 0x10c12223  # sw x12, 260(x2)
     # the body
-    .word 0x10012483  # lw x9, 256(x2)
-    .word 0x10412503  # lw x10, 260(x2)
-    .word 0x00000793  # addi x15, x0, 0
-    .word 0x0ff14583  # lbu x11, 255(x2)
-    .word 0x00158613  # addi x12, x11, 1
-    .word 0x00000693  # addi x13, x0, 0
+    .word 0x10012503  # lw x10, 256(x2)
+    .word 0x10412583  # lw x11, 260(x2)
+    .word 0x00000813  # addi x16, x0, 0
+    .word 0x0ff14603  # lbu x12, 255(x2)
+    .word 0x00160693  # addi x13, x12, 1
+    .word 0x00000713  # addi x14, x0, 0
     .word 0x0ff00293  # addi x5, x0, 255
-    .word 0x40c28733  # sub x14, x5, x12
-    .word 0x00000793  # addi x15, x0, 0
-    .word 0x00278333  # add x6, x15, x2
+    .word 0x40d287b3  # sub x15, x5, x13
+    .word 0x00000813  # addi x16, x0, 0
+    .word 0x00280333  # add x6, x16, x2
     .word 0x00034303  # lbu x6, 0(x6)
-    .word 0x00b34333  # xor x6, x6, x11
-    .word 0x00875393  # srli x7, x14, 8
+    .word 0x00c34333  # xor x6, x6, x12
+    .word 0x0087d393  # srli x7, x15, 8
     .word 0x00737333  # and x6, x6, x7
-    .word 0x0066e6b3  # or x13, x13, x6
-    .word 0xfff70713  # addi x14, x14, -1
-    .word 0x00178793  # addi x15, x15, 1
-    .word 0x1007b293  # sltiu x5, x15, 256
-    .word 0xfc029ee3  # bne x5, x0, -36
+    .word 0x00676733  # or x14, x14, x6
     .word 0xfff78793  # addi x15, x15, -1
-    .word 0x00a4b2b3  # sltu x5, x9, x10
+    .word 0x00180813  # addi x16, x16, 1
+    .word 0x10083293  # sltiu x5, x16, 256
+    .word 0xfc029ee3  # bne x5, x0, -36
+    .word 0xfff80813  # addi x16, x16, -1
+    .word 0x00b532b3  # sltu x5, x10, x11
     .word 0x00000313  # addi x6, x0, 0
-    .word 0x40a483b3  # sub x7, x9, x10
+    .word 0x40b503b3  # sub x7, x10, x11
     .word 0x405002b3  # sub x5, x0, x5
     .word 0x00734333  # xor x6, x6, x7
     .word 0x00537333  # and x6, x6, x5
-    .word 0x0063c4b3  # xor x9, x7, x6
-    .word 0x0016b293  # sltiu x5, x13, 1
-    .word 0x00c4b333  # sltu x6, x9, x12
+    .word 0x0063c533  # xor x10, x7, x6
+    .word 0x00173293  # sltiu x5, x14, 1
+    .word 0x00d53333  # sltu x6, x10, x13
     .word 0x00133313  # sltiu x6, x6, 1
     .word 0x0062f2b3  # and x5, x5, x6
     .word 0x405002b3  # sub x5, x0, x5
-    .word 0x005672b3  # and x5, x12, x5
+    .word 0x0056f2b3  # and x5, x13, x5
     .word 0x10512423  # sw x5, 264(x2)
     # the result
     .word 0x10812503  # lw x10, 264(x2)
     # above the frame
     .word 0x12010293  # addi x5, x2, 288
     # the caller's registers
-    .word 0x0002a483  # lw x9, 0(x5)
-    .cfi_restore 9
     # the caller's x2
-    .word 0x01028293  # addi x5, x5, 16
+    .word 0x00028293  # addi x5, x5, 0
     .cfi_def_cfa 5, 0
     # all the room, wiped upward
     .word 0x00012023  # sw x0, 0(x2)

@@ -1,4 +1,4 @@
-# x25519_step: made by factc 1.0.0 function; 1009 words, 1136 bytes of stack, profile 1
+# x25519_step: made by factc 1.0.0 function; 1002 words, 1136 bytes of stack, profile 1
     .option push
     .option norvc
     .option norelax
@@ -62,17 +62,10 @@ x25519_step:
     .word 0x00430313  # addi x6, x6, 4
     .word 0xfe7298e3  # bne x5, x7, -16
     # the body
-    .word 0x00000513  # addi x10, x0, 0
-    .word 0x00000593  # addi x11, x0, 0
-    .word 0x00000613  # addi x12, x0, 0
     .word 0x00000693  # addi x13, x0, 0
     .word 0x00000713  # addi x14, x0, 0
-    .word 0x00000793  # addi x15, x0, 0
-    .word 0x00000813  # addi x16, x0, 0
-    .word 0x00000893  # addi x17, x0, 0
     .word 0x00000913  # addi x18, x0, 0
     .word 0x00000a13  # addi x20, x0, 0
-    .word 0x00000a93  # addi x21, x0, 0
     .word 0x00000b13  # addi x22, x0, 0
     .word 0x00000b93  # addi x23, x0, 0
     .word 0x00000c13  # addi x24, x0, 0
@@ -999,11 +992,11 @@ x25519_step:
     # the result
     .word 0x00000513  # addi x10, x0, 0
     # parameter 2: the array, back
-    .word 0x46c12283  # lw x5, 1132(x2)
-    .word 0x02410313  # addi x6, x2, 36
+    .word 0x02410293  # addi x5, x2, 36
+    .word 0x46c12303  # lw x6, 1132(x2)
     .word 0x08028393  # addi x7, x5, 128
-    .word 0x00032e03  # lw x28, 0(x6)
-    .word 0x01c2a023  # sw x28, 0(x5)
+    .word 0x0002ae03  # lw x28, 0(x5)
+    .word 0x01c32023  # sw x28, 0(x6)
     .word 0x00428293  # addi x5, x5, 4
     .word 0x00430313  # addi x6, x6, 4
     .word 0xfe7298e3  # bne x5, x7, -16

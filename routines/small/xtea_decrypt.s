@@ -79,12 +79,12 @@ xtea_decrypt:
     # the result
     .word 0x00000513  # addi x10, x0, 0
     # parameter 1: the array, back
-    .word 0x03c12283  # lw x5, 60(x2)
-    .word 0x01010313  # addi x6, x2, 16
-    .word 0x00032e03  # lw x28, 0(x6)
-    .word 0x01c2a023  # sw x28, 0(x5)
-    .word 0x00432e03  # lw x28, 4(x6)
-    .word 0x01c2a223  # sw x28, 4(x5)
+    .word 0x01010293  # addi x5, x2, 16
+    .word 0x03c12303  # lw x6, 60(x2)
+    .word 0x0002ae03  # lw x28, 0(x5)
+    .word 0x01c32023  # sw x28, 0(x6)
+    .word 0x0042ae03  # lw x28, 4(x5)
+    .word 0x01c32223  # sw x28, 4(x6)
     # above the frame
     .word 0x03010293  # addi x5, x2, 48
     # the caller's registers
