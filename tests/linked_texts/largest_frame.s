@@ -15,15 +15,11 @@ largest_frame:
     lui x5, 16
     addi x5, x5, 0
     sub x5, x2, x5
-1:  addi x2, x2, -32
+1:  addi x2, x2, -16
     sw x0, 0(x2)
     sw x0, 4(x2)
     sw x0, 8(x2)
     sw x0, 12(x2)
-    sw x0, 16(x2)
-    sw x0, 20(x2)
-    sw x0, 24(x2)
-    sw x0, 28(x2)
     bne x2, x5, 1b
     # argument 0 to 0
     sw x10, 0(x2)
@@ -51,35 +47,26 @@ largest_frame:
     lw x10, -4(x10)
     # the array back: where it goes is at 65,548
     lui x5, 16
+    addi x5, x5, -12
     add x5, x5, x2
-    lw x5, 12(x5)
     lui x6, 16
-    addi x6, x6, -12
     add x6, x6, x2
-    lw x28, 0(x6)
-    sw x28, 0(x5)
-    lw x28, 4(x6)
-    sw x28, 4(x5)
+    lw x6, 12(x6)
+    lw x28, 0(x5)
+    sw x28, 0(x6)
+    lw x28, 4(x5)
+    sw x28, 4(x6)
     # the frame's end, and the caller's stack
     lui x5, 16
     addi x5, x5, 0
     add x5, x5, x2
     addi x5, x5, 16
-    # four words, and runs of eight
-    sw x0, 0(x2)
-    sw x0, 4(x2)
-    sw x0, 8(x2)
-    sw x0, 12(x2)
-    addi x2, x2, 16
+    # blocks of 16 bytes
 1:  sw x0, 0(x2)
     sw x0, 4(x2)
     sw x0, 8(x2)
     sw x0, 12(x2)
-    sw x0, 16(x2)
-    sw x0, 20(x2)
-    sw x0, 24(x2)
-    sw x0, 28(x2)
-    addi x2, x2, 32
+    addi x2, x2, 16
     bne x2, x5, 1b
     addi x5, x0, 0
     addi x6, x0, 0
