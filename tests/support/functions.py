@@ -133,9 +133,11 @@ def wrapper_steps(parameters, offsets, frame, result, kept, pointers=None, blank
         else:
             head, back = (1, load(low + above - 4 * needed + 4 * number)) if number < 8 else (stacked, stacked)
             aligned = (pointers or {}).get(number, 0) % 4 == 0
+            unchanged = moved(kind, length, aligned, size, pace)
             if taken is None or number in taken:
-                steps += head + address(offsets[number]) + (copied(kind, length, 3, pace) if kind == "bool" else moved(kind, length, aligned, size, pace))
-            steps += back + address(offsets[number]) + moved(kind, length, aligned, size, pace) if form == "mut" else 0
+                passed = copied(kind, length, 3, pace) if kind == "bool" else unchanged
+                steps += head + address(offsets[number]) + passed
+            steps += back + address(offsets[number]) + unchanged if form == "mut" else 0
     steps += load(result) if result is not None else 1
     return steps + address(low) + 1 + kept + zeroed(low + above) + 15
 
