@@ -1,14 +1,14 @@
 -- What fits before a word is set and where a loop is closed, and what is left out.
-use Rattle.std.proofs.Common.{◌≡◌, ℕ, ◌==◌, ◌&&◌, not, true, false, Option}
+use Rattle.std.proofs.Common.{◌≡◌, ℕ, ◌&&◌, Bool, not, true, false, Option}
 use Rattle.std.proofs.Common.{None, Some, refl}
-use Rattle.std.proofs.lemmas.Bool.{and_parts, eqb-true, not-true}
+use Rattle.std.proofs.lemmas.Bool.{and_parts, not-true}
 use Rattle.optimisation.specs.Below.{chain, is_quiet, nothing, StraightBlock, StraightTree, TermTree}
 use Rattle.optimisation.specs.live_words.private.Held.{Table, Held, share, is_live, is_free, setting}
 use Rattle.optimisation.specs.live_words.private.Held.{counting, covers}
 use Rattle.optimisation.specs.live_words.private.Terms.{is_dead}
 use Rattle.optimisation.specs.live_words.private.Sharing.{setting_within, closed}
 use Rattle.optimisation.specs.live_words.private.Sharing.{in_front}
-use Rattle.optimisation.proofs.live_words_lemmas.HeldLemmas.{grows_holding}
+use Rattle.optimisation.proofs.live_words_lemmas.HeldLemmas.{Grows, grows_holding}
 
 pub front_chain : (o : Option StraightTree) (rest : StraightBlock)
     → chain (in_front o nothing) rest ≡ in_front o rest
@@ -35,21 +35,22 @@ module _ (table : Table) where
   -- what fits where a loop is closed
   pub record IsClosed (x : ℕ) (head iteration : Held) : Type 0 where
     pub iteration_fits : iteration.fits ≡ true
-    pub own : share table x ≡ x
-    pub free : (counting table iteration x).fits ≡ true
-    pub covered : covers head.holders 0 (counting table iteration x).holders ≡ true
+    pub free : (setting table iteration x).fits ≡ true
+    pub covered : covers head.holders 0 (setting table iteration x).holders ≡ true
 
   pub is_closed : (x : ℕ) (head iteration : Held) → (closed table x head iteration).fits ≡ true
       → IsClosed x head iteration
   is_closed x head iteration f =
-      let outer = and_parts (counting table iteration x).fits
-      (covers head.holders 0 (counting table iteration x).holders) f in
-      let inner = and_parts (iteration.fits && (share table x == x))
-      (is_free iteration.holders (share table x) x) outer.0 in
-      let parts = and_parts iteration.fits (share table x == x) inner.0 in
+      let parts = and_parts (setting table iteration x).fits
+      (covers head.holders 0 (setting table iteration x).holders) f in
       record {
-        iteration_fits = parts.0;
-        own = eqb-true (share table x) x parts.1;
-        free = outer.0;
-        covered = outer.1;
+        iteration_fits = set_fits iteration x parts.0;
+        free = parts.0;
+        covered = parts.1;
       }
+
+  -- what is live where an iteration ends is what is live at its head, and the counter
+  pub grows_counting : (held : Held) (x : ℕ) (numbers : Bool) → Grows held (counting table held x numbers)
+  grows_counting held x true = grows_holding held (share table x) x
+  grows_counting held x false =
+      let grows = grows_holding held (share table x) x in record { fits = grows.fits; holds = grows.holds }

@@ -1,27 +1,27 @@
 -- Code over the variables that words live in, run beside the code: what is live stays alike, and its path is fine where
 -- that of the code is.
-use Rattle.std.proofs.Common.{◌≡◌, ℕ, ◌==◌, Bool, true, false, if◌then◌else◌, List, [], ◌∷◌, map, Option, None}
-use Rattle.std.proofs.Common.{Some, slice_set, slice_index, refl, sym, ap, subst, arith}
+use Rattle.std.proofs.Common.{◌≡◌, ◌≤◌, ℕ, Bool, true, false, if◌then◌else◌, List, [], ◌∷◌, map, Option, None}
+use Rattle.std.proofs.Common.{Some, slice_set, slice_index, refl, sym, ap, arith}
 use Rattle.optimisation.specs.Below.{after, after_all, array, binary, branch, convert, counted, element, first, holds}
 use Rattle.optimisation.specs.Below.{nothing, prefix, put, repeats, rotate, select, set, StraightBlock, StraightState}
 use Rattle.optimisation.specs.Below.{StraightTree, take, TermTree, value_at, Values, variable, with_variable}
-use Rattle.optimisation.specs.live_words.private.Held.{Table, Holders, Held, share, is_live, anew, fitting}
-use Rattle.optimisation.specs.live_words.private.Held.{living, setting, counting, joined}
+use Rattle.optimisation.specs.live_words.private.Held.{Table, Holders, Held, share, is_live, anew}
+use Rattle.optimisation.specs.live_words.private.Held.{living, setting, joined}
 use Rattle.optimisation.specs.live_words.private.Terms.{reading, reading_all, renamed, is_dead}
 use Rattle.optimisation.specs.live_words.private.Gathering.{at_head}
-use Rattle.optimisation.specs.live_words.private.Sharing.{setting_within, closed, before, before_all}
-use Rattle.optimisation.specs.live_words.private.Sharing.{in_front, shared, shared_all}
+use Rattle.optimisation.specs.live_words.private.Sharing.{are_numbers, at_iteration, setting_within, closed, before}
+use Rattle.optimisation.specs.live_words.private.Sharing.{before_all, in_front, shared, shared_all}
 use Rattle.optimisation.proofs.live_words_lemmas.HeldLemmas.{Grows, grows_holding, grows_joined}
 use Rattle.optimisation.proofs.live_words_lemmas.HeldLemmas.{joined_holds, covers_holds, AreAlike, alike_before}
 use Rattle.optimisation.proofs.live_words_lemmas.HeldLemmas.{set_alike, under_alike, dead_alike, alike_living}
-use Rattle.optimisation.proofs.live_words_lemmas.Rules.{front_chain, dead_parts, IsClosed, is_closed}
-use Rattle.optimisation.proofs.live_words_lemmas.Rules.{set_fits, within_fits}
+use Rattle.optimisation.proofs.live_words_lemmas.Rules.{front_chain, dead_parts, grows_counting, IsClosed}
+use Rattle.optimisation.proofs.live_words_lemmas.Rules.{is_closed, set_fits, within_fits}
 use Rattle.optimisation.proofs.live_words_lemmas.Grown.{grows_head}
 use Rattle.optimisation.proofs.over_lemmas.Values.{same_path, both, alone, at_index, IsAlike, AreAllAlike}
 use Rattle.optimisation.proofs.over_lemmas.Values.{prefix_alike, binary_alike, rotate_alike, convert_alike}
 use Rattle.optimisation.proofs.over_lemmas.Values.{select_alike, element_alike, all_values_alike}
 use Rattle.optimisation.proofs.over_lemmas.Beside.{AreBeside, within_beside, taken_beside, RunsBeside, FollowsAt}
-use Rattle.optimisation.proofs.over_lemmas.Beside.{branch_follows, loop_follows, then_follows}
+use Rattle.optimisation.proofs.over_lemmas.Beside.{branch_follows, loop_follows_as, then_follows}
 
 module _ (table : Table) where
   -- what is live is alike
@@ -42,7 +42,8 @@ module _ (table : Table) where
     };
   }
 
-  module _ (most : List ℕ) where
+  -- for the variable of each word as many iterations are counted as for its own at least
+  module _ (most : List ℕ) (as_many : (x : ℕ) → slice_index most x ≤ slice_index most (share table x)) where
     -- what a live word holds
     living_value : (held : Held) (x : ℕ) {s u : StraightState} → AreReady (living table held x) s u
         → u.variables (share table x) ≡ s.variables x
@@ -147,18 +148,16 @@ module _ (table : Table) where
 
     -- where an iteration begins
     iteration_begins : (x : ℕ) (head iteration : Held) → IsClosed table x head iteration → (i : ℕ) (s u : StraightState)
-        → AreBeside (Alike head.holders) s u → AreReady iteration (counted x i s) (counted x i u)
+        → AreBeside (Alike head.holders) s u
+        → AreReady iteration (counted x i s) (counted (share table x) i u)
     iteration_begins x head iteration parts i s u beside =
-        let inside = counting table iteration x in
+        let first = setting table iteration x in
         record {
           fits = parts.iteration_fits;
           beside = record {
-            variables = subst (λ z. AreAlike table iteration.holders (counted x i s).variables
-                (counted z i u).variables)
-                parts.own
-                (set_alike table (fitting iteration (share table x == x)) x (i ∷ []) s.variables u.variables parts.free
-                (λ y is. beside.variables y (covers_holds head.holders 0 inside.holders parts.covered (share table y)
-                (share table y) y (omega arith) is)));
+            variables = set_alike table iteration x (i ∷ []) s.variables u.variables parts.free
+                (λ y is. beside.variables y (covers_holds head.holders 0 first.holders parts.covered (share table y)
+                (share table y) y (omega arith) is));
             controls = beside.controls;
           };
         }
@@ -171,6 +170,15 @@ module _ (table : Table) where
           fits = λ f. fits;
           holds = λ f v x is. joined_holds one 0 second.holders f v v x (omega arith) is;
         })
+
+    -- behind an iteration
+    ended : {one other : Held} {s u : StraightState} {body code : StraightBlock} → Grows one other
+        → (other.fits ≡ true) × RunsBeside (Alike other.holders) most s u body code
+        → RunsBeside (Alike one.holders) most s u body code
+    ended grows run = record {
+      beside = (ready_before grows (record { fits = run.0; beside = run.1.beside })).beside;
+      path = run.1.path;
+    }
 
     mutual
       -- what fits before a statement fits behind it, and it is followed
@@ -215,22 +223,24 @@ module _ (table : Table) where
           (second_arm.0, branch_follows (Alike held.holders) most chooser.0 first_arm.1 second_arm.1)
       follows held (repeats x low high body) {s} {u} ready =
           let head = at_head table held x body in
-          let iteration = before_all table head body in
+          let end = at_iteration table held x low high body in
+          let grows = grows_counting table head x (are_numbers low high) in
+          let iteration = before_all table end body in
           let last = closed table x head iteration in
           let from = reads (reading table [] last high) low ready in
           let to = reads last high from.1 in
           let parts = is_closed table x head iteration to.1.fits in
-          let fits = (all_follow head body (iteration_begins x head iteration parts 0 s u to.1.beside)).0 in
-          let run = loop_follows (Alike head.holders) most x to.1.beside from.0 to.0
-          (λ i v w at. (all_follow head body (iteration_begins x head iteration parts i v w at)).1) in (
+          let fits = grows.fits (all_follow end body (iteration_begins x head iteration parts 0 s u to.1.beside)).0 in
+          let run = loop_follows_as (Alike head.holders) most x (share table x) (as_many x) to.1.beside from.0 to.0
+          (λ i v w at. ended grows (all_follow end body (iteration_begins x head iteration parts i v w at))) in (
             (grows_head table held x body).fits fits,
-            rw parts.own (record {
+            record {
               beside = (ready_before (grows_head table held x body) (record {
                 fits = fits;
                 beside = run.beside;
               })).beside;
               path = run.path;
-            }),
+            },
           )
 
       pub all_follow : (held : Held) (body : StraightBlock) {s u : StraightState}

@@ -1,7 +1,8 @@
 -- The program over the variables that words live in may stand in the place of the program.
-use Rattle.std.proofs.Common.{◌≡◌, ℕ, ◌+◌, ◌<◌, ◌≤◌, ◌^◌, ◌==◌, ◌++◌, Bool, true, false, if◌then◌else◌, List, []}
-use Rattle.std.proofs.Common.{◌∷◌, length, map, Option, None, Some, option_map, refl, sym, ap, ap₂, ◌∙◌, arith}
-use Rattle.std.proofs.lemmas.Bool.{and_parts, eqb-true}
+use Rattle.std.proofs.Common.{◌≡◌, ℕ, zero, suc, ◌+◌, ◌<◌, ◌≤◌, ◌^◌, ◌==◌, ◌++◌, Bool, true, false, if◌then◌else◌, List, []}
+use Rattle.std.proofs.Common.{◌∷◌, length, map, nat_le, Option, None, Some, option_map, slice_get, slice_index}
+use Rattle.std.proofs.Common.{unwrap_or, refl, sym, ap, ap₂, ◌∙◌, arith}
+use Rattle.std.proofs.lemmas.Bool.{and_parts, eqb-true, leb-true}
 use Rattle.optimisation.specs.Below.{after_all, Arg, array_of, arrays_from, Boolean, declaration_of, declared_words}
 use Rattle.optimisation.specs.Below.{elements_by, end_of, HasLength, is_mutable, IsReplaced, IsStraight, Kind}
 use Rattle.optimisation.specs.Below.{outcome_of, Param, start, StraightBlock, StraightProgram, StraightState, TermTree}
@@ -14,7 +15,7 @@ use Rattle.optimisation.specs.live_words.private.Held.{Table, Held, share, fitti
 use Rattle.optimisation.specs.live_words.private.Terms.{renamed}
 use Rattle.optimisation.specs.live_words.private.Sharing.{shared_all}
 use Rattle.optimisation.specs.live_words.private.Whole.{kept, with_results, reading_any, at_end, at_start, over}
-use Rattle.optimisation.specs.live_words.private.Whole.{nothing_live, all_fits}
+use Rattle.optimisation.specs.live_words.private.Whole.{nothing_live, all_fits, fits_by, keep_counts}
 use Rattle.optimisation.proofs.live_words_lemmas.HeldLemmas.{Grows, grows_same, grows_on, grows_holding, alike_living}
 use Rattle.optimisation.proofs.live_words_lemmas.HeldLemmas.{alike_first}
 use Rattle.optimisation.proofs.live_words_lemmas.TermLemmas.{grows_reading}
@@ -67,17 +68,19 @@ module _ (table : Table) where
         (same_array p.form (s.variables x) (u.variables x) (λ is. kept_alike (is_mutable p.form) held x is here))
         (same_arrays (x + 1) ps next ready)
 
-    any_alike : (most : List ℕ) (held : Held) (value : Option TermTree)
-        → AreReady table (reading_any table held value) s u
+    any_alike : (most : List ℕ) → ((x : ℕ) → slice_index most x ≤ slice_index most (share table x))
+        → (held : Held) (value : Option TermTree) → AreReady table (reading_any table held value) s u
         → IsResultAlike most s.variables u.variables value (option_map (renamed table) value)
-    any_alike most held None ready = record { value = refl; path = same_path most }
-    any_alike most held (Some value) ready =
-        let one = (reads table most held value ready).0 in record { value = ap Some one.value; path = one.path }
+    any_alike most as_many held None ready = record { value = refl; path = same_path most }
+    any_alike most as_many held (Some value) ready =
+        let one = (reads table most as_many held value ready).0 in
+        record { value = ap Some one.value; path = one.path }
 
   -- Where sharing fits.
 
   module _ (held : Held) (p : StraightProgram) (fits : (at_start table held p).fits ≡ true)
-      (own : hold_own 0 (at_start table held p).holders ≡ true) where
+      (own : hold_own 0 (at_start table held p).holders ≡ true)
+      (as_many : (x : ℕ) → slice_index p.iterations x ≤ slice_index p.iterations (share table x)) where
     abbrev code : StraightBlock
     code = shared_all table (at_end table held p) p.body
 
@@ -86,7 +89,7 @@ module _ (table : Table) where
           × RunsBeside (Alike table (at_end table held p).holders) p.iterations (start p args)
           (start p args) p.body code
       runs =
-          all_follow table p.iterations (at_end table held p) p.body (record {
+          all_follow table p.iterations as_many (at_end table held p) p.body (record {
             fits = fits;
             beside = record {
               variables = alike_first table (at_start table held p).holders own (start p args).variables;
@@ -99,7 +102,7 @@ module _ (table : Table) where
 
       result : IsResultAlike p.iterations (end_of p args) (end_of (over table held p) args) p.value
           (option_map (renamed table) p.value)
-      result = any_alike p.iterations (with_results table 0 p.parameters held) p.value last
+      result = any_alike p.iterations as_many (with_results table 0 p.parameters held) p.value last
 
       same_outcome : outcome_of (over table held p) args ≡ outcome_of p args
       same_outcome =
@@ -112,13 +115,27 @@ module _ (table : Table) where
         is_replaced p p.declared code (option_map (renamed table) p.value)
         (λ args within. (same_outcome args, both p.iterations (runs args).1.path (result args).path))
 
+-- as many iterations are counted for each word's variable as for its own at least
+counts_kept : (most : List ℕ) (from : ℕ) (table : Table) → keep_counts most from table ≡ true → (i x : ℕ)
+    → x ≡ from + i → slice_index most x ≤ slice_index most (unwrap_or (slice_get table i) x)
+counts_kept most from [] keeps i x at = omega arith
+counts_kept most from (v ∷ table) keeps zero x at =
+    let parts = and_parts (nat_le (slice_index most from) (slice_index most v)) _ keeps in
+    let here : x ≡ from = omega arith in
+    rw here (leb-true (slice_index most from) (slice_index most v) parts.0)
+counts_kept most from (v ∷ table) keeps (suc i) x at =
+    let parts = and_parts (nat_le (slice_index most from) (slice_index most v)) _ keeps in
+    counts_kept most (from + 1) table parts.1 i x (omega arith)
+
 -- a program whose sharing fits
-pub replaced : (table : Table) (p : StraightProgram) → all_fits (at_start table (nothing_live p 0) p) ≡ true
+pub replaced : (table : Table) (p : StraightProgram) → fits_by table p ≡ true
     → IsStraight (over table (nothing_live p 0) p) → IsReplaced p (over table (nothing_live p 0) p)
 replaced table p fit =
     let held = at_start table (nothing_live p 0) p in
-    let both = and_parts held.fits (hold_own 0 held.holders) fit in
+    let parts = and_parts (all_fits held) (keep_counts p.iterations 0 table) fit in
+    let both = and_parts held.fits (hold_own 0 held.holders) parts.0 in
     shared_replaced table (nothing_live p 0) p both.0 both.1
+    (λ x. counts_kept p.iterations 0 table parts.1 x x (omega arith))
 
 -- There are few parameters: each takes a word at least.
 

@@ -1,7 +1,7 @@
 -- Two runs side by side: what their variables hold goes together, and the path of the second is fine where that of the
 -- first is.
-use Rattle.std.proofs.Common.{◌≡◌, ℕ, zero, suc, ◌+◌, ◌-◌, ◌==◌, ◌&&◌, not, Bool, true, false, if◌then◌else◌, List}
-use Rattle.std.proofs.Common.{◌∷◌, Option, None, Some, refl, ap}
+use Rattle.std.proofs.Common.{◌≡◌, ℕ, zero, suc, ◌+◌, ◌-◌, ◌==◌, ◌≤◌, ◌&&◌, not, Bool, true, false, if◌then◌else◌}
+use Rattle.std.proofs.Common.{List, ◌∷◌, Option, None, Some, slice_index, refl, ap, arith}
 use Rattle.optimisation.specs.Below.{after, after_all, bounded, branch, chain, counted, decided, first, holds, Path}
 use Rattle.optimisation.specs.Below.{path_along, path_at, path_of_iterations, repeats, StraightBlock, StraightState}
 use Rattle.optimisation.specs.Below.{StraightTree, TermTree, iterations, value_at, Values, with_controls}
@@ -33,6 +33,24 @@ module _ (most : List ℕ) where
       rw chooser.value (either_path (value_at s condition) (value_at s condition == 0) second_arm first_arm) in
       both most chooser.path arm
 
+  pub loop_path_as : (s t : StraightState) (x z : ℕ) → slice_index most x ≤ slice_index most z
+      → (body code : StraightBlock) {low high a b : TermTree}
+      → IsAlike most s.variables t.variables low a → IsAlike most s.variables t.variables high b
+      → IsNoWorse most (path_of_iterations (value_at s high - value_at s low) (value_at s low)
+      (λ i u. after_all (counted x i u) body) (λ i u. path_along (counted x i u) body) s)
+      (path_of_iterations (value_at s high - value_at s low) (value_at s low) (λ i u. after_all (counted z i u) code)
+      (λ i u. path_along (counted z i u) code) t)
+      → IsNoWorse most (path_at s (repeats x low high body)) (path_at t (repeats z a b code))
+  loop_path_as s t x z as_many body code {low} {high} {a} {b} from to iteration =
+      let l = value_at s low in
+      let h = value_at s high in
+      let path : IsNoWorse most (bounded x l h ∷ path_of_iterations (h - l) l (λ i u. after_all (counted x i u) body)
+      (λ i u. path_along (counted x i u) body) s)
+      (bounded z (value_at t a) (value_at t b) ∷ path_of_iterations (value_at t b - value_at t a) (value_at t a)
+      (λ i u. after_all (counted z i u) code) (λ i u. path_along (counted z i u) code) t) =
+      rw (from.value, to.value) (record { fine = λ fine. (omega (arith, fine.0, as_many), iteration.fine fine.1) }) in
+      both most (both most from.path to.path) path
+
   pub loop_path : (s t : StraightState) (x : ℕ) (body code : StraightBlock) {low high a b : TermTree}
       → IsAlike most s.variables t.variables low a → IsAlike most s.variables t.variables high b
       → IsNoWorse most (path_of_iterations (value_at s high - value_at s low) (value_at s low)
@@ -40,15 +58,7 @@ module _ (most : List ℕ) where
       (path_of_iterations (value_at s high - value_at s low) (value_at s low) (λ i u. after_all (counted x i u) code)
       (λ i u. path_along (counted x i u) code) t)
       → IsNoWorse most (path_at s (repeats x low high body)) (path_at t (repeats x a b code))
-  loop_path s t x body code {low} {high} {a} {b} from to iteration =
-      let l = value_at s low in
-      let h = value_at s high in
-      let path : IsNoWorse most (bounded x l h ∷ path_of_iterations (h - l) l (λ i u. after_all (counted x i u) body)
-      (λ i u. path_along (counted x i u) body) s)
-      (bounded x (value_at t a) (value_at t b) ∷ path_of_iterations (value_at t b - value_at t a) (value_at t a)
-      (λ i u. after_all (counted x i u) code) (λ i u. path_along (counted x i u) code) t) =
-      rw (from.value, to.value) (record { fine = λ fine. (fine.0, iteration.fine fine.1) }) in
-      both most (both most from.path to.path) path
+  loop_path s t x = loop_path_as s t x x (omega arith)
 
 module _ (R : Values → Values → Type 0) where
   pub same_hold : (within : Option ℕ) {s t : StraightState} → AreBeside R s t → holds t within ≡ holds s within
@@ -108,20 +118,28 @@ module _ (R : Values → Values → Type 0) where
         let rest = iterations_follow f g p q each n (i + 1) (f i s) (g i t) here.0 in
         (rest.0, both most here.1 rest.1)
 
-    pub loop_follows : {s t : StraightState} (x : ℕ) {low high a b : TermTree} {body code : StraightBlock}
+    -- a loop beside one with another counter, for which as many iterations are counted
+    pub loop_follows_as : {s t : StraightState} (x z : ℕ) → slice_index most x ≤ slice_index most z
+        → {low high a b : TermTree} {body code : StraightBlock}
         → AreBeside R s t → IsAlike most s.variables t.variables low a → IsAlike most s.variables t.variables high b
-        → ((i : ℕ) (u v : StraightState) → AreBeside R u v → RunsBeside (counted x i u) (counted x i v) body code)
-        → FollowsAt s t (repeats x low high body) (single (repeats x a b code))
-    loop_follows {s} {t} x {low} {high} {a} {b} {body} {code} beside from to each =
-        let run = iterations_follow (λ i u. after_all (counted x i u) body) (λ i u. after_all (counted x i u) code)
-        (λ i u. path_along (counted x i u) body) (λ i u. path_along (counted x i u) code)
+        → ((i : ℕ) (u v : StraightState) → AreBeside R u v → RunsBeside (counted x i u) (counted z i v) body code)
+        → FollowsAt s t (repeats x low high body) (single (repeats z a b code))
+    loop_follows_as {s} {t} x z as_many {low} {high} {a} {b} {body} {code} beside from to each =
+        let run = iterations_follow (λ i u. after_all (counted x i u) body) (λ i u. after_all (counted z i u) code)
+        (λ i u. path_along (counted x i u) body) (λ i u. path_along (counted z i u) code)
         (λ i u v at. let iteration = each i u v at in (iteration.beside, iteration.path))
         (value_at s high - value_at s low)
         (value_at s low) s t beside in
         record {
           beside = rw (from.value, to.value) run.0;
-          path = alone most (loop_path most s t x body code from to run.1);
+          path = alone most (loop_path_as most s t x z as_many body code from to run.1);
         }
+
+    pub loop_follows : {s t : StraightState} (x : ℕ) {low high a b : TermTree} {body code : StraightBlock}
+        → AreBeside R s t → IsAlike most s.variables t.variables low a → IsAlike most s.variables t.variables high b
+        → ((i : ℕ) (u v : StraightState) → AreBeside R u v → RunsBeside (counted x i u) (counted x i v) body code)
+        → FollowsAt s t (repeats x low high body) (single (repeats x a b code))
+    loop_follows x = loop_follows_as x x (omega arith)
 
 -- a statement, and others behind it
 pub then_follows : {Q R : Values → Values → Type 0} {most : List ℕ} {s t : StraightState} {statement : StraightTree}

@@ -1,11 +1,11 @@
 // Which words share a variable.
 
-ghost use Rattle.std.specs.Prelude.{◌≡◌, ◌≤◌, length, slice_set, IfOk};
+ghost use Rattle.std.specs.Prelude.{◌≡◌, ◌≤◌, length, slice_index, slice_set, IfOk};
 ghost use Rattle.optimisation.specs.live_words.private.Choice.{chosen, conflicts_with, first_shared};
 ghost use Rattle.optimisation.specs.live_words.private.Choice.{is_conflict, is_fixed, is_noted, is_some};
 ghost use Rattle.optimisation.specs.live_words.private.Choice.{may_share, merged, none_placed, noted_where};
 ghost use Rattle.optimisation.specs.live_words.private.Choice.{own_variables, placed, placed_all, placing_by};
-ghost use Rattle.optimisation.specs.live_words.private.Choice.{variable_for, with_own};
+ghost use Rattle.optimisation.specs.live_words.private.Choice.{variable_for, with_own, words_of};
 
 use crate::live_words::live::{conflict_place, holder, mark};
 use crate::same_words::{are_alike, at};
@@ -40,10 +40,19 @@ fn is_some(word: Option<u32>) -> bool
     }
 }
 
-/// What is chosen from: the variables, what is live at the beginning, and how many words may share.
+/// How many iterations are counted for the loops of a variable.
+pub fn counted_for(iterations: &[u32], variable: usize) -> u32
+    ensures { result ≡ slice_index iterations.now variable }
+{
+    iterations.get(variable).copied().unwrap_or(0)
+}
+
+/// What is chosen from: the variables, how many iterations are counted for the loop of each, what is live at the
+/// beginning, and how many words may share, the first ones.
 #[derive(Clone, Copy)]
 pub struct WordCandidates<'w> {
     pub declared: &'w [FlatVariable],
+    pub iterations: &'w [u32],
     pub starts: &'w [Option<u32>],
     pub width: u32,
 }
@@ -57,21 +66,22 @@ impl<'w> WordCandidates<'w> {
             || is_conflict(conflicts, self.width, word, word)
     }
 
-    /// Whether a word may share this variable, in which another is placed. That of a counter is not shared, since a
-    /// loop counts in a register only where its body sets the counter nowhere.
+    /// Whether a word may share this variable, in which another is placed, where as many iterations are counted for its
+    /// loops.
     fn may_share(&self, conflicts: &[bool], word: u32, variable: u32) -> bool
-        ensures { result ≡ may_share self.now.declared.now conflicts.now self.now.width word variable }
+        ensures { result ≡ may_share (words_of self.now) conflicts.now word variable }
     {
         are_alike(
             at(self.declared, word as usize),
             at(self.declared, variable as usize),
         ) && !is_conflict(conflicts, self.width, variable, word)
-            && !is_conflict(conflicts, self.width, variable, variable)
+            && counted_for(self.iterations, word as usize)
+                <= counted_for(self.iterations, variable as usize)
     }
 
     /// The first of these variables that a word may share, else its own.
     fn first_shared(&self, conflicts: &[bool], word: u32, variables: &[u32]) -> u32
-        ensures { result ≡ first_shared self.now.declared.now conflicts.now self.now.width word variables.now }
+        ensures { result ≡ first_shared (words_of self.now) conflicts.now word variables.now }
     {
         for variable in variables {
             if self.may_share(conflicts, word, *variable) {
@@ -83,8 +93,7 @@ impl<'w> WordCandidates<'w> {
 
     /// The variable that a word gets, its own or one of these.
     fn variable_for(&self, conflicts: &[bool], variables: &[u32], word: u32) -> u32
-        ensures { result ≡ variable_for self.now.declared.now self.now.starts.now conflicts.now self.now.width
-            variables.now word }
+        ensures { result ≡ variable_for (words_of self.now) conflicts.now variables.now word }
     {
         if self.is_fixed(conflicts, word) {
             word
@@ -178,7 +187,7 @@ impl Placed {
     /// Places a word.
     fn place(&mut self, words: WordCandidates<'_>, word: u32) -> Result<(), AllocError>
         ensures { IfOk result (λ done. placing_by self.new
-            ≡ placed words.entry.declared.now words.entry.starts.now words.entry.width (placing_by self.old) word) }
+            ≡ placed (words_of words.entry) (placing_by self.old) word) }
     {
         let variable = words.variable_for(&self.conflicts, &self.variables, word);
         merge_other(&mut self.conflicts, words.width, variable, word);
@@ -195,8 +204,7 @@ impl Placed {
     ) -> Result<(), AllocError>
         requires { length weights.old.items ≤ words.width }
         ensures { IfOk result (λ done. placing_by self.new
-            ≡ placed_all words.entry.declared.now words.entry.starts.now words.entry.width words.entry.width
-            weights.old.items (placing_by self.old)) }
+            ≡ placed_all (words_of words.entry) words.entry.width weights.old.items (placing_by self.old)) }
     {
         for _ in 0..words.width {
             if greatest_of(weights.as_slice()) == 0 {
@@ -217,8 +225,7 @@ pub fn choose(
     mut weights: Vec<u64>,
     conflicts: Vec<bool>,
 ) -> Result<Vec<u32>, AllocError>
-    ensures { IfOk result (λ table. table.items ≡ chosen words.entry.declared.now words.entry.starts.now
-        words.entry.width weights.items conflicts.items) }
+    ensures { IfOk result (λ table. table.items ≡ chosen (words_of words.entry) weights.items conflicts.items) }
 {
     weights.truncate(words.width as usize);
     let mut placed = Placed::nothing(alloc, words.width, conflicts)?;

@@ -233,13 +233,16 @@ impl Live {
         self.note(word);
     }
 
-    /// A counter is set, which keeps its own variable.
-    fn count(&mut self, table: &[u32], counter: u32)
-        ensures { held_by self.new ≡ counting table.now (held_by self.old) counter }
+    /// A counter is live through its loop, whose body so sets the counter's variable nowhere. It has to keep its own
+    /// variable but where the loop goes from a number to a number: its work does not hang on the iterations that are
+    /// counted then.
+    pub fn count(&mut self, table: &[u32], counter: u32, numbers: bool)
+        ensures { held_by self.new ≡ counting table.now (held_by self.old) counter numbers }
     {
-        self.require(share(table, counter) == counter);
-        self.note_own(counter);
-        self.set(table, counter);
+        self.live(table, counter);
+        if !numbers {
+            self.note_own(counter);
+        }
     }
 
     /// These are the holders where an iteration of a loop may begin or the loop is over. What is live before an
@@ -249,7 +252,7 @@ impl Live {
             → before.holders ≡ head.items
             → held_by self.new ≡ closed table.now counter before (held_by self.old) }
     {
-        self.count(table, counter);
+        self.set(table, counter);
         let fine = covers(head.as_slice(), self.holders.as_slice());
         self.require(fine);
         self.holders = head;

@@ -1,13 +1,14 @@
-ghost use Rattle.std.specs.Prelude.{◌≡◌, ◌<◌, ◌^◌, length, IfErr, IfOk, IfSome, OnOk};
+ghost use Rattle.std.specs.Prelude.{◌≡◌, ◌<◌, ◌^◌, ◌&&◌, length, IfErr, IfOk, IfSome, OnOk};
 ghost use Rattle.std.specs.Option.{option_map};
 ghost use Rattle.optimisation.specs.Below.{IsReplaced, IsStraight, IsWantOfMemory, straight_block, term_tree};
 ghost use Rattle.optimisation.specs.Below.{with_body};
 ghost use Rattle.optimisation.specs.live_words.Exact.{shared_of};
 ghost use Rattle.optimisation.specs.live_words.private.Held.{held_by};
-ghost use Rattle.optimisation.specs.live_words.private.Whole.{all_fits, at_end, at_start, kept, nothing_live, over};
+ghost use Rattle.optimisation.specs.live_words.private.Whole.{all_fits, at_end, at_start, keep_counts, kept};
+ghost use Rattle.optimisation.specs.live_words.private.Whole.{nothing_live, over};
 ghost use Rattle.optimisation.specs.live_words.private.Whole.{table_for, with_results};
 
-use crate::live_words::choice::{WordCandidates, choose};
+use crate::live_words::choice::{WordCandidates, choose, counted_for};
 use crate::live_words::live::{Live, hold_own, share};
 use crate::live_words::statements::statements;
 use crate::live_words::terms::{read_any, renamed_any};
@@ -74,6 +75,25 @@ fn all_fits(live: &Live) -> bool
     live.fits && hold_own(live.holders.as_slice())
 }
 
+/// Whether for the variable of each word as many iterations are counted as for its own at least.
+fn keep_counts(iterations: &[u32], table: &[u32]) -> bool
+    ensures { result ≡ keep_counts iterations.now 0 table.now }
+{
+    for (word, variable) in table.iter().enumerate() {
+        if counted_for(iterations, *variable as usize) < counted_for(iterations, word) {
+            return false;
+        }
+    }
+    true
+}
+
+/// Whether sharing fits in every respect.
+fn sharing_fits(live: &Live, iterations: &[u32], table: &[u32]) -> bool
+    ensures { result ≡ (all_fits (held_by live.now) && keep_counts iterations.now 0 table.now) }
+{
+    all_fits(live) && keep_counts(iterations, table)
+}
+
 /// Nothing is live yet. Conflicts are noted of so many words.
 fn nothing_live(alloc: Global, straight: &StraightCode<'_>, width: u32) -> Result<Live, AllocError>
     ensures { IfOk result (λ live. held_by live ≡ nothing_live straight.now width) }
@@ -92,6 +112,7 @@ fn table_for(alloc: Global, straight: &StraightCode<'_>) -> Result<Vec<u32>, All
     let conflicts = live.conflicts;
     let words = WordCandidates {
         declared: straight.declared(),
+        iterations: straight.iterations(),
         starts: live.holders.as_slice(),
         width: live.width,
     };
@@ -111,9 +132,10 @@ pub fn share_words<'f>(
     ensures memory { IfErr result (λ refusal. IsWantOfMemory refusal.rule refusal.place) }
 {
     let table = table_for(alloc, straight)?;
+    let shares = table.as_slice();
     let mut live = nothing_live(alloc, straight, 0)?;
-    let parts = over(alloc, straight, &mut live, table.as_slice())?;
-    if !all_fits(&live) {
+    let parts = over(alloc, straight, &mut live, shares)?;
+    if !sharing_fits(&live, straight.iterations(), shares) {
         return Ok(None);
     }
     Ok(straight.rewritten(straight.declared(), parts.body, parts.value))

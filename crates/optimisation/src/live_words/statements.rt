@@ -5,8 +5,9 @@ ghost use Rattle.std.specs.Option.{option_map};
 ghost use Rattle.branch_removal.specs.Straight as straight;
 ghost use Rattle.optimisation.specs.Below.{nothing, straight_block, straight_tree, term_tree};
 ghost use Rattle.optimisation.specs.live_words.private.Held.{held_by};
-ghost use Rattle.optimisation.specs.live_words.private.Sharing.{before, before_all, before_put, in_front, onto};
-ghost use Rattle.optimisation.specs.live_words.private.Sharing.{setting_within, shared, shared_all};
+ghost use Rattle.optimisation.specs.live_words.private.Sharing.{are_numbers, before, before_all, before_put};
+ghost use Rattle.optimisation.specs.live_words.private.Sharing.{in_front, onto, setting_within, shared};
+ghost use Rattle.optimisation.specs.live_words.private.Sharing.{shared_all};
 
 use crate::live_words::gathering::gather_loop;
 use crate::live_words::live::{Live, share};
@@ -21,6 +22,18 @@ struct LoopBounds<'b> {
     counter: u32,
     low: &'b Term,
     high: &'b Term,
+}
+
+impl LoopBounds<'_> {
+    /// Whether both are numbers.
+    fn are_numbers(&self) -> bool
+        ensures { result ≡ are_numbers (term_tree self.now.low.now) (term_tree self.now.high.now) }
+    {
+        matches!(
+            (self.low, self.high),
+            (Term::Number(_, _), Term::Number(_, _))
+        )
+    }
 }
 
 /// Before an array's element is set.
@@ -186,6 +199,7 @@ fn repeat(
 {
     gather_loop(alloc, live, table, bounds.counter, body)?;
     let head = live.copy_holders(alloc)?;
+    live.count(table, bounds.counter, bounds.are_numbers());
     let iteration = statements(alloc, live, table, body)?;
     live.close(table, bounds.counter, head);
     read(live, table, &[], bounds.high);

@@ -1,6 +1,6 @@
 -- Which words are live, seen backwards from the end of the code: what they hold may be read later. A table says which
 -- variable each word lives in; no variable may hold two live words at once. Arrays are treated as words are.
-use Rattle.std.specs.Prelude.{ℕ, ◌+◌, ◌*◌, ◌==◌, ◌&&◌, Bool, true, false, List, [], ◌∷◌, Option, None, Some}
+use Rattle.std.specs.Prelude.{ℕ, ◌+◌, ◌*◌, ◌==◌, ◌&&◌, Bool, true, false, not, List, [], ◌∷◌, Option, None, Some}
 use Rattle.std.specs.Prelude.{if◌then◌else◌, length, min, slice_get, slice_set, take, unwrap_or}
 use Rattle.optimisation.specs.declared.live_words.live.Live.{Live}
 
@@ -125,9 +125,13 @@ freed table held x =
 abbrev pub setting : Table → Held → ℕ → Held
 setting table held x = noted (freed table held x) x
 
--- a counter is set, which keeps its own variable
-abbrev pub counting : Table → Held → ℕ → Held
-counting table held x = setting table (noted_own (fitting held (share table x == x)) x) x
+-- a counter is live through its loop, whose body so sets the counter's variable nowhere; it keeps its own variable but
+-- where the loop goes from a number to a number: its work does not hang on the iterations that are counted then
+abbrev pub noted_where_any : Bool → Held → ℕ → Held
+noted_where_any counted held x = if counted then noted_own held x else held
+
+abbrev pub counting : Table → Held → ℕ → Bool → Held
+counting table held x numbers = noted_where_any (not numbers) (living table held x) x
 
 -- Holders beside others.
 

@@ -1,7 +1,7 @@
 -- How words share variables: from the last statement back to the first, what is live is carried along.
-use Rattle.std.specs.Prelude.{ℕ, [], map, Option, None, Some, if◌then◌else◌}
-use Rattle.optimisation.specs.Below.{array, branch, first, nothing, put, repeats, set, StraightBlock, StraightTree}
-use Rattle.optimisation.specs.Below.{take, TermTree}
+use Rattle.std.specs.Prelude.{ℕ, Bool, true, false, [], map, Option, None, Some, if◌then◌else◌}
+use Rattle.optimisation.specs.Below.{array, branch, first, nothing, number, put, repeats, set, StraightBlock}
+use Rattle.optimisation.specs.Below.{StraightTree, take, TermTree}
 use Rattle.optimisation.specs.live_words.private.Held.{Table, Held, share, anew, fitting, living, setting, counting}
 use Rattle.optimisation.specs.live_words.private.Held.{joined, covers}
 use Rattle.optimisation.specs.live_words.private.Terms.{reading, reading_all, renamed, is_dead}
@@ -27,7 +27,16 @@ abbrev pub closed_by : Held → Held → Held
 closed_by head iteration = fitting (anew iteration head.holders) (covers head.holders 0 iteration.holders)
 
 abbrev pub closed : Table → ℕ → Held → Held → Held
-closed table x head iteration = closed_by head (counting table iteration x)
+closed table x head iteration = closed_by head (setting table iteration x)
+
+-- whether a loop goes from a number to a number
+abbrev pub are_numbers : TermTree → TermTree → Bool
+are_numbers (number low kind) (number high other) = true
+are_numbers low high = false
+
+-- what is live where an iteration ends
+abbrev pub at_iteration : Table → Held → ℕ → TermTree → TermTree → StraightBlock → Held
+at_iteration table held x low high body = counting table (at_head table held x body) x (are_numbers low high)
 
 abbrev pub before_bounds : Table → TermTree → TermTree → Held → Held
 before_bounds table low high held = reading table [] (reading table [] held high) low
@@ -45,7 +54,8 @@ abbrev mutual
       (before_all table (anew (before_all table held otherwise) held.holders) accepted)
   before table held (repeats x low high body) =
       before_bounds table low high
-      (closed table x (at_head table held x body) (before_all table (at_head table held x body) body))
+      (closed table x (at_head table held x body)
+      (before_all table (at_iteration table held x low high body) body))
 
   -- and before some statements
   pub before_all : Table → Held → StraightBlock → Held
@@ -72,7 +82,7 @@ abbrev mutual
       (shared_all table held otherwise))
   shared table held (repeats x low high body) =
       Some (repeats (share table x) (renamed table low) (renamed table high)
-      (shared_all table (at_head table held x body) body))
+      (shared_all table (at_iteration table held x low high body) body))
 
   pub shared_all : Table → Held → StraightBlock → StraightBlock
   shared_all table held nothing = nothing

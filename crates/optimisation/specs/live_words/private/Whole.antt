@@ -1,13 +1,13 @@
 -- A whole program whose words share variables.
 use Rattle.std.specs.Prelude.{ℕ, ◌+◌, ◌*◌, ◌==◌, ◌&&◌, Bool, true, false, List, [], ◌∷◌, length, min}
-use Rattle.std.specs.Prelude.{replicate, Option}
+use Rattle.std.specs.Prelude.{nat_le, replicate, slice_index, Option}
 use Rattle.std.specs.Prelude.{None, Some, if◌then◌else◌}
 use Rattle.std.specs.Option.{option_map}
 use Rattle.optimisation.specs.Below.{checked, is_mutable, Param, StraightProgram, TermTree, with_body}
 use Rattle.branch_removal.specs.Uses.{weights_of}
 use Rattle.optimisation.specs.live_words.private.Held.{Table, Held, share, fitting, living, hold_own}
 use Rattle.optimisation.specs.live_words.private.Terms.{reading, renamed}
-use Rattle.optimisation.specs.live_words.private.Choice.{chosen}
+use Rattle.optimisation.specs.live_words.private.Choice.{chosen, Words}
 use Rattle.optimisation.specs.live_words.private.Sharing.{before_all, shared_all}
 
 -- so many words may share, the first ones: each pair of them is looked at
@@ -58,16 +58,32 @@ abbrev pub nothing_live : StraightProgram → ℕ → Held
 nothing_live p width = none_live (length p.declared) width
 
 -- the words that share variables, by what is live where each is in its own, and how much each is used
+abbrev pub words_by : StraightProgram → Held → Words
+words_by p held = record {
+  declared = p.declared;
+  iterations = p.iterations;
+  starts = held.holders;
+  width = held.width;
+}
+
 abbrev pub table_by : StraightProgram → Held → Table
-table_by p held = chosen p.declared held.holders held.width (weights_of p) held.conflicts
+table_by p held = chosen (words_by p held) (weights_of p) held.conflicts
 
 abbrev pub table_for : StraightProgram → Table
 table_for p = table_by p (at_start [] (nothing_live p (min (length p.declared) most_sharing)) p)
 
+-- for the variable of each word from x on as many iterations are counted as for its own at least
+abbrev pub keep_counts : List ℕ → ℕ → Table → Bool
+keep_counts iterations x [] = true
+keep_counts iterations x (v ∷ table) =
+    nat_le (slice_index iterations x) (slice_index iterations v) && keep_counts iterations (x + 1) table
+
 -- the program, where sharing fits
+abbrev pub fits_by : Table → StraightProgram → Bool
+fits_by table p = all_fits (at_start table (nothing_live p 0) p) && keep_counts p.iterations 0 table
+
 abbrev pub shared_by : Table → StraightProgram → Option StraightProgram
-shared_by table p =
-    if all_fits (at_start table (nothing_live p 0) p) then checked (over table (nothing_live p 0) p) else None
+shared_by table p = if fits_by table p then checked (over table (nothing_live p 0) p) else None
 
 abbrev pub shared_program : StraightProgram → Option StraightProgram
 shared_program p = shared_by (table_for p) p
