@@ -26,8 +26,11 @@ use Rattle.codegen.specs.expression_code.TermCode.{mirror_by, mirror_code, mirro
 use Rattle.codegen.specs.expression_code.TermCode.{access_offset, computed_index, into_by, is_at_home, keeps_words}
 use Rattle.codegen.specs.expression_code.TermCode.{code_by, indexed_code, near_code, near_element, operand}
 use Rattle.codegen.specs.expression_code.TermCode.{opposite_in, reached_code, sum_offset}
+use Rattle.codegen.specs.declared.expression_code.frame_bytes.FrameBytes.{FrameBytes}
+use Rattle.codegen.specs.expression_code.FrameBytes.{frame_bytes, operated_bytes}
+use Rattle.codegen.specs.expression_code.NumberRows.{number_of}
 use Rattle.inline.specs.Flat as flat
-use Rattle.codegen.specs.Below.{BinaryOperator, Kind}
+use Rattle.codegen.specs.Below.{BinaryOperator, Kind, Uint32}
 use Rattle.codegen.specs.expression_code.Layout.{term_layout}
 
 pub neither_of_three : (a b c : Bool) → (a || (b || c)) ≡ false → (a ≡ false) × (b ≡ false) × (c ≡ false)
@@ -184,6 +187,13 @@ module _ (layout : Frame) (left_out : ℕ → Bool)
   operand_same place e spares =
       ap (λ (h : Option ℕ). at_home h (temporary a.count (temporaries_offset layout) place)) (term_home_same e spares)
 
+  bytes_same : (e : TermTree) → frame_bytes declared b e ≡ frame_bytes declared a e
+  bytes_same (flat.convert Uint32 e) = bytes_same e
+  bytes_same (flat.binary source operator width left right) =
+      ap₂ (λ (l r : Option FrameBytes). operated_bytes l operator width r (number_of right)) (bytes_same left)
+      (bytes_same right)
+  bytes_same e = refl
+
   opposite_same : (e : TermTree) → opposite_in b e ≡ opposite_in a e
   opposite_same (flat.binary source operator width left right) = refl
   opposite_same e = refl
@@ -224,6 +234,7 @@ module _ (layout : Frame) (left_out : ℕ → Bool)
         let one : Spares (λ y. names_in y left) = λ y out. (parts y out).0 in
         let two : Spares (λ y. names_in y right) = λ y out. (parts y out).1 in
         simp (
+          bytes_same,
           at_home_same,
           operand_same,
           by_same None (own place) place left one,

@@ -19,5 +19,6 @@ pub mod OperandRuns
 pub mod Indices
 pub mod Mirrors
 pub mod Elements
+pub mod JoinedWords
 pub mod ExpressionRuns
 pub mod SiteRuns

@@ -6,6 +6,7 @@
 mod allocation;
 pub mod emit;
 mod expressions;
+mod frame_bytes;
 mod laws;
 mod layout;
 mod locations;

@@ -52,6 +52,9 @@ use Rattle.codegen.proofs.expression_code_lemmas.Below.{sum_offset, kind_at}
 use Rattle.codegen.proofs.expression_code_lemmas.Indices.{IsPart, sum_part, whole_part}
 use Rattle.codegen.proofs.expression_code_lemmas.Mirrors.{place_reached}
 use Rattle.codegen.proofs.expression_code_lemmas.NumberCode.{sum_known}
+use Rattle.codegen.proofs.expression_code_lemmas.JoinedWords.{word_marked}
+use Rattle.codegen.proofs.expression_code_lemmas.Below.{load_code}
+use Rattle.codegen.specs.expression_code.FrameBytes.{joined_word}
 
 module _ (z : Setting) (free : ℕ) (aligned : free % 4 ≡ 0) (above : base_of z ≤ free) where
   abbrev slots : Slots
@@ -198,7 +201,27 @@ module _ (z : Setting) (free : ℕ) (aligned : free % 4 ≡ 0) (above : base_of 
         (applied has room (omega (arith, number_length d r w row)) (means w)
         (λ m. (same m).0) runs)
 
-    -- An operator between two operands, where either may be in its instruction.
+    -- An operator that joins bytes to a word, which is taken from where it lies.
+    joined_runs : (source : Place) (operator : BinaryOperator) (width : Width) {left right : TermTree}
+        {one other : WordType} → Typed slots left one → Typed slots right other → (o : ℕ)
+        → joined_word z.laid z.allocation operator width left right ≡ Some o
+        → Comes (binary source operator width left right) 3 (load_code d o)
+    joined_runs source operator width {left = left} {right = right} has more o is =
+        let e = binary source operator width left right in
+        along (λ env. sym (append-nil (path_in env.variables e)))
+        (word_marked z 3 (load_code d o) (ValuedIn z e free d place) source operator width has more o is none
+        (λ word. made slots place (λ j. e) d (none_yet slots place (λ j. e))
+        (weaken
+        (λ env s fine ready. ready.held)
+        (λ env s t fine ready moved.
+        let got = took z d o (value_in env.variables e) env s t target.free.nonzero (word.there env s ready) moved in
+        let others : Leaves works s t = λ q h. got.others q (not_written works q d h own) in
+        assumption)
+        (move_runs z (take d o) (simp (lt-ltb 4 d target.free.low, lt-ltb d 32 target.free.small))
+        (word.even, word.inside)))
+        (λ env s t ready done. still_ready slots place env s t ready done.held done.kept done.lower)))
+
+    -- An operator between two operands, where either may be in its instruction, unless it joins bytes to a word.
     operated_runs : (source : Place) (operator : BinaryOperator) (width : Width) {left right : TermTree}
         {profile : Profile} {one other made' : WordType}
         → Typed slots left one → Typed slots right other → Makes profile (operation_of operator) one other made'
@@ -207,7 +230,9 @@ module _ (z : Setting) (free : ℕ) (aligned : free % 4 ≡ 0) (above : base_of 
         (into_code (terms_at z free) d place (binary source operator width left right))
     operated_runs source operator width {left = left} {right = right} has more makes room first alone second =
         let e = operands left right right in
-        by_option (right_row z.allocation operator right)
+        by_option (joined_word z.laid z.allocation operator width left right)
+        (λ o is. cheaper (omega arith) (joined_runs source operator width has more o is))
+        (λ apart. by_option (right_row z.allocation operator right)
         (λ row is.
         let numbered = right_known z.allocation operator right row is in
         cheaper (omega arith)
@@ -253,7 +278,7 @@ module _ (z : Setting) (free : ℕ) (aligned : free % 4 ≡ 0) (above : base_of 
           fits more env s ready,
           value_fits (types_of z.code.profile z.declared) env.variables ready.fits has,
           value_fits (types_of z.code.profile z.declared) env.variables ready.fits more,
-        )))))
+        ))))))
 
     -- A choice, which the mask of its condition makes alone where the third operand is 0. The mask is made of the
     -- condition or of its opposite.

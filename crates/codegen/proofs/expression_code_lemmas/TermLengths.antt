@@ -20,6 +20,7 @@ use Rattle.codegen.proofs.expression_code_lemmas.Below.{right_row, rotate, rotat
 use Rattle.codegen.proofs.expression_code_lemmas.Below.{step_code, store_code, temporary, term_nodes, TermTree, Types}
 use Rattle.codegen.proofs.expression_code_lemmas.Below.{types_of, variable, variable_location, Width, WordType}
 use Rattle.codegen.proofs.expression_code_lemmas.Below.{working_register, sum_offset}
+use Rattle.codegen.specs.expression_code.FrameBytes.{joined_word}
 use Rattle.codegen.specs.Below.{Boolean, LogicalAnd, LogicalOr, Multiply, W8}
 use Rattle.codegen.specs.declared.expression_code.numbers.Finish.TheVariants.{Narrowed}
 use Rattle.codegen.specs.declared.expression_code.numbers.NumberStep.TheVariants.{KeepsLow}
@@ -178,7 +179,8 @@ module _ (layout : TermLayout) where
       let left = placed_length None place one (into_short None (own place) place one) in
       let right = placed_length None place two (into_short None (own place) place two) in
       let next = placed_length None (place + 1) two (into_short None (own (place + 1)) (place + 1) two) in
-      code_length (right_row layout.allocation emitted two) _ _ _
+      code_length (joined_word layout.declared layout.allocation emitted width one two) _ _ _ (λ o. omega (arith, load_length d o))
+      (code_length (right_row layout.allocation emitted two) _ _ _
       (λ row.
       let made = number_length d (register_of (operand layout place one) 29) width row in
       omega (arith, length-append {A = Instr}, left, fetch_length, made))
@@ -186,7 +188,7 @@ module _ (layout : TermLayout) where
       (λ row.
       let made = number_length d (register_of (operand layout place two) 29) width row in
       omega (arith, length-append {A = Instr}, right, fetch_length, made))
-      (omega (arith, length-append {A = Instr}, left, next, fetch_length, operator_length)))
+      (omega (arith, length-append {A = Instr}, left, next, fetch_length, operator_length))))
   into_short other d place (rotate width e amount) =
       let placed = placed_length None place e (into_short None (own place) place e) in
       omega (arith, length-append {A = Instr}, placed, fetch_length, rotate_length)

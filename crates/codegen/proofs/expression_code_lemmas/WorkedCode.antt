@@ -6,7 +6,8 @@ use Rattle.codegen.proofs.expression_code_lemmas.Below.{Allocation, binary, conv
 use Rattle.codegen.proofs.expression_code_lemmas.Below.{Instr, into_code, Place, rotate, select, TermTree, variable}
 use Rattle.codegen.proofs.expression_code_lemmas.Below.{word_as, WordType}
 use Rattle.codegen.specs.expression_code.Allocation.{plain}
-use Rattle.codegen.specs.Below.{Addi, Andi, array_as, BitAnd, GreaterOrEqual, Less, LogicalAnd, LessOrEqual, Lui, Lw}
+use Rattle.codegen.specs.Below.{Addi, Andi, array_as, BitAnd, BitOr, GreaterOrEqual, Lbu, Less, LogicalAnd}
+use Rattle.codegen.specs.Below.{LessOrEqual, Lui, Lw}
 use Rattle.codegen.specs.Below.{Mul, Multiply, number}
 use Rattle.codegen.specs.Below.{ShiftLeft, Slli, Sltiu, Srli, Subtract, Uint32, Uint8, Unequal, W32}
 use Rattle.language.specs.declared.signature.Label.TheVariants.{Public}
@@ -18,9 +19,12 @@ use Rattle.rv_code.specs.declared.operations.RegisterOperation.TheVariants as re
 abbrev uint32 : WordType
 uint32 = record { kind = Uint32; label = Public }
 
--- a, b, and an array of four words
+abbrev uint8 : WordType
+uint8 = record { kind = Uint8; label = Public }
+
+-- a, b, an array of four words, and one of eight bytes
 abbrev declared : List FlatVariable
-declared = word_as uint32 false ∷ word_as uint32 false ∷ array_as uint32 false 4 ∷ []
+declared = word_as uint32 false ∷ word_as uint32 false ∷ array_as uint32 false 4 ∷ array_as uint8 false 8 ∷ []
 
 abbrev both_home : Allocation
 both_home = record { count = 8; homes = Some 13 ∷ Some 14 ∷ []; immediates = false; unread = []; mirrors = [] }
@@ -202,3 +206,24 @@ module _ (place : Place) where
 
   picked_at : code with_numbers (element place 2 4 (n 3)) ≡ instr.Load Lw 5 2 20 ∷ []
   picked_at = refl
+
+  -- four bytes that follow each other are a word where they lie on an even offset, in either order
+
+  abbrev byte : ℕ → ℕ → TermTree
+  byte i amount = binary place ShiftLeft W32 (convert Uint32 (element place 3 8 (n i))) (n amount)
+
+  abbrev joined : TermTree → TermTree → TermTree
+  joined left right = binary place BitOr W32 left right
+
+  low_first : code with_numbers (joined (joined (joined (convert Uint32 (element place 3 8 (n 4))) (byte 5 8)) (byte 6 16))
+      (byte 7 24)) ≡ instr.Load Lw 5 2 28 ∷ []
+  low_first = refl
+
+  high_first : code with_numbers (joined (byte 7 24) (joined (byte 6 16) (joined (byte 5 8) (byte 4 0))))
+      ≡ instr.Load Lw 5 2 28 ∷ []
+  high_first = refl
+
+  -- and other bytes are joined in registers
+  apart : code with_numbers (joined (byte 5 8) (byte 7 24)) ≡ instr.Load Lbu 5 2 29 ∷ instr.Shift Slli 5 5 8
+      ∷ instr.Load Lbu 6 2 31 ∷ instr.Shift Slli 6 6 24 ∷ instr.Register register.Or 5 5 6 ∷ []
+  apart = refl

@@ -6,6 +6,8 @@ use Rattle.codegen.specs.expression_code.Allocation.{register_of, Allocation, ho
 use Rattle.codegen.specs.expression_code.Allocation.{at_home, mirror_of}
 use Rattle.codegen.specs.declared.expression_code.allocation.Mirror.{Mirror}
 use Rattle.codegen.specs.declared.expression_code.emit.NearPlace.{NearPlace}
+pub use Rattle.codegen.specs.expression_code.NearElements.{is_near, kind_at, near_offset, near_element}
+use Rattle.codegen.specs.expression_code.FrameBytes.{joined_word}
 use Rattle.codegen.specs.expression_code.NumberRows.{number_of, right_row, left_row, chooses_zero}
 use Rattle.codegen.specs.declared.expression_code.numbers.Finish.{Finish}
 use Rattle.codegen.specs.declared.expression_code.numbers.Finish.TheVariants.{Alone, GivesZero, GivesMore, Narrowed}
@@ -39,10 +41,6 @@ upper_part n = (n + 2048) / 4096 % 2 ^ 20
 
 abbrev pub lower_part : ℕ → ℕ
 lower_part n = n % 4096
-
--- what 12 bits hold as a number that is not negative
-abbrev pub is_near : ℕ → Bool
-is_near n = nat_lt n 2048
 
 -- a slot's word into a register
 abbrev pub load_code : ℕ → ℕ → List Instr
@@ -287,25 +285,6 @@ load_by Uint32 = Lw
 abbrev pub element_code : ℕ → ℕ → Kind → ℕ → List Instr
 element_code d r kind offset = address_code d r kind offset ++ Load (load_by kind) d d (lower_part offset) ∷ []
 
--- the kind of a variable, or of its elements
-abbrev pub kind_at : List FlatVariable → ℕ → Kind
-kind_at [] x = Uint32
-kind_at (d ∷ ds) zero = d.word.kind
-kind_at (d ∷ ds) (suc x) = kind_at ds x
-
--- the offset of an array's element at an index that is known, where its access holds that
-abbrev pub near_offset : ℕ → Kind → Option ℕ → Option ℕ
-near_offset base kind None = None
-near_offset base kind (Some i) =
-    let offset = base + element_bytes kind * i in
-    if is_near offset then Some offset else None
-
--- the same of an index that is this expression, where numbers go into instructions
-abbrev pub near_element : List FlatVariable → Allocation → ℕ → TermTree → Option ℕ
-near_element declared allocation x index =
-    if allocation.immediates then near_offset (variable_offset declared x) (kind_at declared x) (number_of index)
-    else None
-
 -- the number that an operator adds to its left operand, modulo 2^32
 abbrev pub added : BinaryOperator → Option ℕ → Option ℕ
 added operators.Add (Some n) = Some n
@@ -452,7 +431,8 @@ module _ (layout : TermLayout) where
         ++ prefix_code d (operand_register place e first_spare) operator width
     into_by other d place (binary source own width left right) =
         let operator = unwrap_or other own in
-        code_by (right_row layout.allocation operator right)
+        code_by (joined_word layout.declared layout.allocation operator width left right) (λ offset. load_code d offset)
+        (code_by (right_row layout.allocation operator right)
         (λ row.
         placed_code place left (into_by None (own_register place) place left) ++ fetch_operand place left first_spare
         ++ number_code d (operand_register place left first_spare) width row)
@@ -465,7 +445,7 @@ module _ (layout : TermLayout) where
         ++ fetch_operand place left first_spare ++ fetch_operand (place + 1) right second_spare
         ++ operator_code d (next_register place)
         (operand_register place left first_spare) (operand_register (place + 1) right second_spare)
-        (emitted_operator layout.allocation operator) width))
+        (emitted_operator layout.allocation operator) width)))
     into_by other d place (rotate width e amount) =
         placed_code place e (into_by None (own_register place) place e) ++ fetch_operand place e first_spare
         ++ rotate_code d (operand_register place e first_spare) width amount

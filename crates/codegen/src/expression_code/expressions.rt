@@ -9,6 +9,7 @@ ghost use Rattle.codegen.specs.expression_code.TermCode.{choice_or_zero_code, in
 ghost use Rattle.codegen.specs.expression_code.TermCode.{own_register, placed_code, reached_code, indexed_code};
 ghost use Rattle.codegen.specs.Below.{height_of, term_tree};
 
+use crate::expression_code::frame_bytes::joined_word;
 use crate::expression_code::layout::Layout;
 use crate::expression_code::locations::{
     FIRST_SPARE, SECOND_SPARE, THIRD_SPARE, copy, fetch, keep,
@@ -217,6 +218,9 @@ fn into_by(
         }
         Term::Binary(_, own, width, left, right) => {
             let operator = other.unwrap_or(*own);
+            if let Some(offset) = joined_word(layout, operator, *width, left, right) {
+                return emit::load(code, target, offset);
+            }
             if let Some(row) = right_row(layout, operator, right) {
                 let register = evaluated(layout, code, place, left)?;
                 return operators::with_number(code, target, register, *width, row);
