@@ -1,37 +1,36 @@
 -- The code of a loop that counts in its counter's home, by its bounds.
 use Rattle.std.proofs.Common.{◌≡◌, ℕ, zero, suc, ◌+◌, ◌-◌, ◌*◌, ◌^◌, ◌<◌, ◌≤◌, ◌==◌, true, false}
-use Rattle.std.proofs.Common.{nat_lt, List, [], ◌∷◌, ◌++◌, length, Some, slice_get, slice_index, refl, sym, ap}
+use Rattle.std.proofs.Common.{nat_lt, List, [], ◌∷◌, ◌++◌, length, Option, None, Some, slice_get, slice_index, refl, sym, ap}
 use Rattle.std.proofs.Common.{◌∙◌, ap₂, subst, arith, ne_eqb, length-append, append-nil}
 use Rattle.std.proofs.lemmas.Bool.{ltb-true}
 use Rattle.std.proofs.lemmas.Nat.{mul-le}
-use Rattle.codegen.proofs.CountingRuns.{Guarded, HoldsNumber, guarded_runs, home_high, home_low, one_computed}
-use Rattle.codegen.proofs.CountingRuns.{iterations_runs}
+use Rattle.codegen.proofs.CertainRuns.{counted_runs}
+use Rattle.codegen.proofs.CountingRuns.{Guarded, HoldsNumber, guarded_runs, home_high, home_low, homes_compared}
+use Rattle.codegen.proofs.CountingRuns.{one_computed}
 use Rattle.codegen.proofs.Language.{TermTree, word_as, value_in, path_in, iterations, path_of_iterations, Path, bounded}
 use Rattle.codegen.proofs.Language.{term_nodes, types_of, TermHasType, counter_type, StraightBlock, repeats}
 use Rattle.codegen.proofs.Language.{iterations_counted}
 use Rattle.codegen.proofs.Language.{StraightState, counted, after, after_all, path_at, path_along, word_of, Values}
 use Rattle.codegen.proofs.LoopRuns.{AtLoop, bounds_runs, by_iterations, is_left, next, next_inside, test_runs}
 use Rattle.codegen.proofs.Logic.{lt-ltb, nat_tests, none-some, same_Some, HeldAt, Setting, setting, base_of, MarkKnown}
-use Rattle.codegen.proofs.Logic.{terms_at}
 use Rattle.codegen.proofs.Logic.{layout_of}
-use Rattle.codegen.proofs.Logic.{none, quiet, Runs, along, along_fit, seq, quietly, weaken, gives, cheaper, never}
-use Rattle.codegen.proofs.Logic.{Ready, HomesKept, home_beside, homes_moved, number_or_zero, take, does, moves_run}
-use Rattle.codegen.proofs.Logic.{kept_less, register-at}
+use Rattle.codegen.proofs.Logic.{none, Runs, along, along_fit, seq, quietly, weaken, gives, cheaper, never}
+use Rattle.codegen.proofs.Logic.{Ready, HomesKept, homes_moved, number_or_zero, take, does, moves_run}
+use Rattle.codegen.proofs.Logic.{register-at}
 use Rattle.codegen.proofs.Logic.{load_length}
 use Rattle.codegen.proofs.Machine.{bounds_code, test_code, home_of, height_of, read_code, read_register, Instr}
-use Rattle.codegen.proofs.Machine.{slots_to, ByteMap, number_at, into_code, Sltu}
+use Rattle.codegen.proofs.Machine.{slots_to, ByteMap, number_at, Sltu}
 use Rattle.codegen.proofs.PairRuns.{FirstRead, read_then}
-use Rattle.codegen.proofs.Slots.{StateShown, Hidden, hidden_then, hidden_by, hidden_kept, hidden_number, ready_with}
-use Rattle.codegen.proofs.Slots.{read_source, source_apart, homed_runs}
-use Rattle.codegen.specs.private.Loops.{any_sets, below_number_code, below_word_code, guarded_code, is_below}
-use Rattle.codegen.specs.private.Loops.{short_number, to_number_code, iterations_code}
+use Rattle.codegen.proofs.Slots.{StateShown, Hidden, hidden_then, hidden_by, hidden_number, ready_with}
+use Rattle.codegen.proofs.Slots.{read_source, source_apart}
+use Rattle.codegen.specs.private.Loops.{any_sets, below_number_code, below_word_code, counted_code, first_below}
+use Rattle.codegen.specs.private.Loops.{guarded_code, iteration_code, short_number, to_number_code}
 use Rattle.codegen.specs.Below.{Addi, number, sign_extended, Sltiu}
 use Rattle.rv_code.specs.declared.instructions.Instr.TheVariants as instr
 use Rattle.rv_machine.specs.Machine as machine
 use Rattle.codegen.proofs.Machine.{mirror_code, mirror_of}
-use Rattle.codegen.proofs.Mirroring.{mirror_length, mirror_runs, ready_mirrored}
+use Rattle.codegen.proofs.Mirroring.{mirror_length}
 use Rattle.codegen.proofs.expression_code_lemmas.WorkRegisters.{when_some}
-use Rattle.codegen.proofs.program_logic_lemmas.Pieces.{by_test}
 
 -- Numbers as bounds.
 
@@ -47,9 +46,21 @@ short_is (number value kind) bound is =
     record { small = omega (arith, e, ltb-true value 2048 both.0); value = λ m. e; path = λ m. refl }
 short_is e bound is = absurd (none-some bound is)
 
-below_is : (low : TermTree) (bound : ℕ) → is_below bound low ≡ true → (m : Values) → value_in m low < bound
-below_is (number value kind) bound below m = ltb-true value bound below
-below_is e bound below m = absurd cc
+record IsBelow (low : TermTree) (bound value : ℕ) : Type 0 where
+  short : IsShort low value
+  below : value < bound
+
+below_is : (low : TermTree) (bound value : ℕ) → bound < 2048 → first_below bound low ≡ Some value
+    → IsBelow low bound value
+below_is (number v kind) bound value small is =
+    let both = when_some (nat_lt v bound) (Some v) value is in
+    let e = same_Some v value both.1 in
+    let less = ltb-true v bound both.0 in
+    record {
+      short = record { small = omega (arith, small, e, less); value = λ m. e; path = λ m. refl };
+      below = omega (arith, e, less);
+    }
+below_is low bound value small is = absurd (none-some value is)
 
 module _ (z : Setting) where
   -- whether a register is below a number comes into another
@@ -64,10 +75,6 @@ module _ (z : Setting) where
       (one_computed z (instr.Immediate Sltiu d r bound)
       (simp (lt-ltb 4 d low, lt-ltb d 32 high, lt-ltb r 32 high', lt-ltb bound 4096 (omega (arith, small))))
       (λ e. omega (arith, low, e)))
-
-  -- homes stay where a temporary is written
-  homes_compared : {d v : ℕ} {s t : machine.State} → d < 8 → HoldsNumber z d v s t → HomesKept z s t
-  homes_compared low done q home = done.others q (λ e. omega (arith, z.allocated.some, home.0, e, low))
 
 module _ (z : Setting) (depth x h : ℕ) (within : depth < z.depths)
     (known : slice_get z.declared x ≡ Some (word_as counter_type false)) (at : home_of z.allocation.homes x ≡ Some h)
@@ -197,71 +204,64 @@ module _ (z : Setting) (depth x h : ℕ) (within : depth < z.depths)
 
     -- from a number below the bound on
 
-    abbrev Counted : StraightState → machine.State → Type 0
-    Counted env s = Ready z (counted x (value_in env.variables low) env) s
+    module _ (value : ℕ) (is_below : IsBelow low bound value) where
+      abbrev last : ℕ
+      last = bound - 1
 
-    certain_at : (b : ℕ × ℕ) → is_below bound low ≡ true → b.1 - b.0 ≤ most → (left : ℕ)
-        → b.1 - b.0 ≡ left
-        → Runs z (iterations_cost 1 + 3)
-        (λ env. path_of_iterations left b.0 one_iteration (λ i e. path_along (counted x i e) body) env)
-        (iterations_code h mirror (below_number_code 5 h bound) ys)
-        (With Counted b)
-        (λ env s t. Done (iterations left b.0 one_iteration env) s t)
-    certain_at b below few zero is =
-        never
-        (λ env s known.
-        let first = ap (λ (c : ℕ × ℕ). c.0) known.is in
-        let second = sym (is_short.value env.variables) ∙ ap (λ (c : ℕ × ℕ). c.1) known.is in
-        let less = below_is low bound below env.variables in omega (arith, is, first, second, less))
-    certain_at b below few (suc left) is =
-        let limit = b.0 + left + 1 in
-        let e = mul-le (left + 1) (n + (3 + 1) + 1) most (n + (3 + 1) + 1)
-        (omega (arith, few, is)) (omega arith) in
-        cheaper (omega (arith, e))
-        (weaken
-        (λ env s fine known.
-        let first = ap (λ (c : ℕ × ℕ). c.0) known.is in
-        let second = sym (is_short.value env.variables) ∙ ap (λ (c : ℕ × ℕ). c.1) known.is in
-        record {
-          ready = subst (λ i. Ready z (counted x i env) s) first known.given;
-          there = omega (arith, is, second);
-          last = refl;
-        })
-        (λ env s t fine known done. done)
-        (iterations_runs z depth x h known at 1 n limit (AtBound limit) body (λ s t hidden is. is) (limited limit)
-        (number_tests limit) unset inner (round_near _ (omega arith)) left b.0))
+      last_near : 2 * length (iteration_code h mirror last ys) ≤ 2 ^ 11
+      last_near =
+          let short_mirror = mirror_length (home_of z.allocation.homes x) (mirror_of z.allocation x) in
+          omega (arith, short, short_mirror, length-append {A = Instr})
 
-    certain_runs : is_below bound low ≡ true → Runs z (16 * term_nodes low + 2 + (iterations_cost 1 + 3))
+      certain_at : (b : ℕ × ℕ) → b.1 - b.0 ≤ most → (left : ℕ) → b.1 - b.0 ≡ left
+          → Runs z (iterations_cost 1 + 1)
+          (λ env. path_of_iterations left b.0 one_iteration (λ i e. path_along (counted x i e) body) env)
+          (counted_code h mirror value last ys) (With (Ready z) b)
+          (λ env s t. Done (iterations left b.0 one_iteration env) s t)
+      certain_at b few zero is =
+          never
+          (λ env s known.
+          let first = sym (is_below.short.value env.variables) ∙ ap (λ (c : ℕ × ℕ). c.0) known.is in
+          let second = sym (is_short.value env.variables) ∙ ap (λ (c : ℕ × ℕ). c.1) known.is in
+          omega (arith, is, first, second, is_below.below))
+      certain_at b few (suc left) is =
+          let e = mul-le (left + 1) (3 + (n + 1) + 1) most (n + (3 + 1) + 1)
+          (omega (arith, few, is)) (omega arith) in
+          cheaper (omega (arith, e))
+          (weaken
+          (λ env s fine known.
+          let first = sym (is_below.short.value env.variables) ∙ ap (λ (c : ℕ × ℕ). c.0) known.is in
+          let second = sym (is_short.value env.variables) ∙ ap (λ (c : ℕ × ℕ). c.1) known.is in
+          (known.given, first, omega (arith, is, second)))
+          (λ env s t fine known done. done)
+          (counted_runs z depth x h known at last (omega (arith, is_short.small)) n body unset inner last_near value
+          is_below.short.small left b.0))
+
+      certain_runs : Runs z (iterations_cost 1 + 1)
+          (λ env. path_in env.variables low ++ bounded x (bounds env).0 (bounds env).1 ∷ path_by env (bounds env))
+          (counted_code h mirror value last ys) (Ready z) Looped
+      certain_runs =
+          along
+          (λ env. ap (λ (p : Path). p ++ bounded x (bounds env).0 (bounds env).1 ∷ path_by env (bounds env))
+          (is_below.short.path env.variables))
+          (by_iterations z x low high (λ b few. along_fit (λ env s known. ap (path_by env) known.is)
+          (gives (λ env s t fine known done. looped_by b env s t known.is done)
+          (certain_at b few (b.1 - b.0) refl))))
+
+    abbrev ToNumber : List Instr → Type 0
+    ToNumber code = Runs z (16 * term_nodes low + (1 + (2 + (3 + (iterations_cost 1 + 3)) + 0)))
         (λ env. path_in env.variables low ++ bounded x (bounds env).0 (bounds env).1 ∷ path_by env (bounds env))
-        ((into_code (terms_at z (base_of z)) h 0 low ++ mirror) ++ iterations_code h mirror (below_number_code 5 h bound) ys)
-        (Ready z) Looped
-    certain_runs below =
-        let is = z.allocated.allowed x h at in
-        let less = below_is low bound below in
-        gives
-        (λ env s t fine ready done. record {
-          ready = done.second.ready;
-          hidden = hidden_then z depth s done.middle t
-              (hidden_then z depth s done.first.middle done.middle
-              (hidden_kept z depth s done.first.middle (omega (arith, within))
-              (kept_less z (base_of z) (base_of z + 4 * (0 - z.allocation.count)) s done.first.middle (omega arith)
-              done.first.first.kept))
-              (hidden_by z depth done.first.middle done.middle done.first.second.same)) done.second.hidden;
-        })
-        (seq (quiet (homed_runs z h is has_low room_low) (mirror_runs z x) (λ env s t ready done. done.held))
-        (by_iterations z x low high (λ b few. along_fit (λ env s known. ap (path_by env) known.is)
-        (gives (λ env s t fine known done. looped_by b env s t known.is done)
-        (certain_at b below few (b.1 - b.0) refl))))
-        (λ env s t ready done.
-        let m = done.middle in
-        let kept = kept_less z (base_of z) (base_of z + 4 * (0 - z.allocation.count)) s m (omega arith) done.first.kept in
-        ready_mirrored z x h (value_in env.variables low) counter_type false known at
-        (omega (arith, less env.variables, is_short.small)) env s m t ready kept done.first.there
-        (λ r other apart. done.first.lower r (home_beside z.allocation.count 0 h r other.0 other.1 apart)) done.second))
+        code (Ready z) Looped
+
+    by_first : (first_number : Option ℕ) → first_below bound low ≡ first_number
+        → ToNumber (to_number_code (layout_of z) h mirror low bound ys first_number)
+    by_first None is = read_number_runs
+    by_first (Some value) is =
+        cheaper (omega arith) (certain_runs value (below_is low bound value is_short.small is))
 
     pub to_number_runs : Runs z (16 * term_nodes low + (1 + (2 + (3 + (iterations_cost 1 + 3)) + 0)))
         (λ env. path_at env (repeats x low high body))
-        (to_number_code (layout_of z) h mirror low bound ys) (Ready z)
+        (to_number_code (layout_of z) h mirror low bound ys (first_below bound low)) (Ready z)
         (StateShown z depth (λ env. after env (repeats x low high body)))
     to_number_runs =
         along
@@ -270,7 +270,7 @@ module _ (z : Setting) (depth x h : ℕ) (within : depth < z.depths)
         ap (λ (front : Path). front ++ rest)
         (ap (λ (p : Path). path_in env.variables low ++ p) (is_short.path env.variables)
         ∙ append-nil (path_in env.variables low)))
-        (by_test (is_below bound low) (λ below. cheaper (omega arith) (certain_runs below)) (λ some. read_number_runs))
+        (by_first (first_below bound low) refl)
 
   -- Up to a bound in the frame.
 

@@ -15,6 +15,7 @@ use Rattle.codegen.proofs.Logic.{written}
 use Rattle.codegen.proofs.Slots.{StateShown, Hidden, hidden_then, hidden_less, hidden_by, ready_same, ready_still}
 use Rattle.codegen.proofs.Slots.{ready_with}
 use Rattle.codegen.proofs.Unset.{all_left_alone}
+use Rattle.codegen.specs.Below.{register}
 use Rattle.codegen.specs.private.Jumps.{again_code}
 use Rattle.codegen.specs.private.Loops.{any_sets, guarded_code, iterations_code}
 use Rattle.codegen.specs.expression_code.TermCode.{move_code}
@@ -53,6 +54,18 @@ one_computed z i plain some =
           ∙ unwritten s.regs (written_register i) _ q apart;
     })
     (computing_within z is_free (i ∷ []) (ap (λ b. b && true) plain) none_low)
+
+-- a field is added to a register
+pub one_sum : (z : Setting) (d r field : ℕ) → 4 < d → d < 32 → r < 32 → field < 4096
+    → Runs z 1 none (instr.Immediate Addi d r field ∷ []) (Held z)
+    (λ env s t. HoldsNumber z d (sum_of (register s.regs r) (sign_extended 12 field)) s t)
+one_sum z d r field low high few small =
+    one_computed z (instr.Immediate Addi d r field)
+    (simp (lt-ltb 4 d low, lt-ltb d 32 high, lt-ltb r 32 few, lt-ltb field 4096 small)) (λ e. omega (arith, low, e))
+
+-- homes stay where a temporary is written
+pub homes_compared : (z : Setting) {d v : ℕ} {s t : machine.State} → d < 8 → HoldsNumber z d v s t → HomesKept z s t
+homes_compared z low done q home = done.others q (λ e. omega (arith, z.allocated.some, home.0, e, low))
 
 -- the iteration of a number is next, and so many more, up to a limit that is found where it is
 pub record Next (z : Setting) (x limit : ℕ) (There : ByteMap → Type 0) (left i : ℕ) (env : StraightState)
@@ -124,13 +137,7 @@ module _ (z : Setting) (depth x h : ℕ) (known : slice_get z.declared x ≡ Som
       gives
       (λ env s t fine held done. subst (λ v. HoldsNumber z h v s t)
       (ap (λ a. sum_of a (sign_extended 12 field)) (register-at s.regs r (λ e. omega (arith, low, e)))) done)
-      (one_computed z (instr.Immediate Addi h r field)
-      (simp (
-        lt-ltb 4 h (omega (arith, home_low)),
-        lt-ltb h 32 (omega (arith, home_high)),
-        lt-ltb r 32 few,
-        lt-ltb field 4096 small,
-      )) (λ e. omega (arith, home_low, e)))
+      (one_sum z h r field (omega (arith, home_low)) (omega (arith, home_high)) few small)
 
   -- the number in a register comes into the home alone
   one_moved : (r : ℕ) → 4 < r → r < 32
@@ -165,7 +172,7 @@ module _ (z : Setting) (depth x h : ℕ) (known : slice_get z.declared x ≡ Som
   moved_in r low few = followed (λ s. s.regs r) (one_moved r low few)
 
   -- the home has the number that the counter has
-  number_there : (i : ℕ) (env : StraightState) (s : machine.State) → env.variables x ≡ i ∷ [] → Ready z env s
+  pub number_there : (i : ℕ) (env : StraightState) (s : machine.State) → env.variables x ≡ i ∷ [] → Ready z env s
       → s.regs h ≡ i
   number_there i env s is ready = ready.homes_there x h (word_as counter_type false) known at
       ∙ ap (λ (l : List ℕ). slice_index l 0) is
@@ -185,6 +192,19 @@ module _ (z : Setting) (depth x h : ℕ) (known : slice_get z.declared x ≡ Som
       ready_same z (counted x i (counted x j env)) env s (λ y. counted_back i j env is y (y == x) refl) (λ c. refl)
       ready
 
+  -- so it is behind an iteration whose body sets the counter nowhere
+  pub iteration_is : (body : StraightBlock) → any_sets x body ≡ false → (i : ℕ) (env : StraightState)
+      → (after_all (counted x i env) body).variables x ≡ i ∷ []
+  iteration_is body unset i env = all_left_alone body x unset (counted x i env) ∙ counted_is i env
+
+  -- the words of the loops around are as they were, behind one more iteration and a jump
+  pub hidden_on : (o s t u : machine.State) → Hidden z depth o s → Hidden z (depth + 1) s t → Still t u
+      → Hidden z depth o u
+  hidden_on o s t u one two still =
+      hidden_then z depth o s u one
+      (hidden_then z depth s t u (hidden_less z depth (depth + 1) s t (omega arith) two)
+      (hidden_by z depth t u still.bytes))
+
   -- A loop up to a limit, with a test that finds the limit where it is.
   module _ {test ys : List Instr} (c n limit : ℕ) (There : ByteMap → Type 0) (body : StraightBlock)
       (keeps : (s t : machine.State) → Hidden z (depth + 1) s t → There s.bytes → There t.bytes)
@@ -201,9 +221,6 @@ module _ (z : Setting) (depth x h : ℕ) (known : slice_get z.declared x ≡ Som
 
     abbrev iteration_path : ℕ → StraightState → Path
     iteration_path i env = path_along (counted x i env) body
-
-    iteration_is : (i : ℕ) (env : StraightState) → (one_iteration i env).variables x ≡ i ∷ []
-    iteration_is i env = all_left_alone body x unset (counted x i env) ∙ counted_is i env
 
     abbrev Iteration : ℕ → ℕ → StraightState → machine.State → Type 0
     Iteration left i env s = Next z x limit There left i env s
@@ -229,7 +246,7 @@ module _ (z : Setting) (depth x h : ℕ) (known : slice_get z.declared x ≡ Som
         let two = done.second.second in
         let small = limited s.bytes given.there in
         let more : sum_of (m.regs h) 1 ≡ i + 1 =
-        ap (λ a. sum_of a 1) (number_there i (one_iteration i env) m (iteration_is i env) shown.ready)
+        ap (λ a. sum_of a 1) (number_there i (one_iteration i env) m (iteration_is body unset i env) shown.ready)
         ∙ omega (arith, small, given.last) in
         let same : t.bytes ≡ m.bytes = two.2 ∙ count_same one in
         record {
@@ -263,13 +280,6 @@ module _ (z : Setting) (depth x h : ℕ) (known : slice_get z.declared x ≡ Som
       is : env.variables x ≡ number ∷ []
       hidden : Hidden z depth o u
 
-    hidden_on : (o s t u : machine.State) → Hidden z depth o s → Hidden z (depth + 1) s t → Still t u
-        → Hidden z depth o u
-    hidden_on o s t u one two still =
-        hidden_then z depth o s u one
-        (hidden_then z depth s t u (hidden_less z depth (depth + 1) s t (omega arith) two)
-        (hidden_by z depth t u still.bytes))
-
     all_iterations : (left i : ℕ)
         → Runs z ((left + 1) * (n + (3 + c) + 1))
         (λ env. path_of_iterations (suc left) i one_iteration iteration_path env)
@@ -295,7 +305,7 @@ module _ (z : Setting) (depth x h : ℕ) (known : slice_get z.declared x ≡ Som
           number = i;
           small = omega (arith, done.last, limited t.bytes done.there);
           ready = ready_still z (counted x (i + 1) (one_iteration i env)) t u done.ready still;
-          is = iteration_is i env;
+          is = iteration_is body unset i env;
           hidden = hidden_on o s t u inv.1 done.hidden still;
         })
         round_runs left i

@@ -18,7 +18,8 @@ use Rattle.codegen.specs.private.Compared.{against_zero}
 use Rattle.codegen.specs.private.Fresh.{homes_but, names_in, names_in_any, names_in_result, passes}
 use Rattle.codegen.proofs.StoredValues.{stored_alike}
 use Rattle.codegen.specs.private.Emitted.{into_element_code, stored_value}
-use Rattle.codegen.specs.private.Loops.{counting_home, loop_from, repeat_code, short_number}
+use Rattle.codegen.specs.private.Loops.{counting_home, first_below, loop_from, repeat_code, short_number}
+use Rattle.codegen.specs.private.Loops.{to_number_code}
 use Rattle.codegen.specs.expression_code.Allocation.{mirror_if, mirror_of, temporary, working_register}
 use Rattle.codegen.specs.declared.expression_code.allocation.Mirror.{Mirror}
 use Rattle.codegen.specs.declared.expression_code.emit.NearPlace.{NearPlace}
@@ -365,12 +366,19 @@ module _ (layout : Frame) (left_out : ℕ → Bool)
 
   -- Loops.
 
+  to_number_same : (home : ℕ) (mirror : List Instr) (low : TermTree) (bound : ℕ) (body : List Instr)
+      (first_number : Option ℕ) → Spares (λ y. names_in y low)
+      → to_number_code fewer home mirror low bound body first_number
+      ≡ to_number_code layout home mirror low bound body first_number
+  to_number_same home mirror low bound body (Some value) one = refl
+  to_number_same home mirror low bound body None one = rw (read_same 5 0 low one, register_same 5 low one) refl
+
   loop_same : (next : ℕ) (counter : Location) (mirror : List Instr) (low high : TermTree) (body : List Instr)
       (home bound : Option ℕ) → Spares (λ y. names_in y low) → Spares (λ y. names_in y high)
       → loop_from fewer next counter mirror low high body home bound
       ≡ loop_from layout next counter mirror low high body home bound
   loop_same next counter mirror low high body (Some home) (Some bound) one two =
-      rw (into_same home 0 low one, read_same 5 0 low one, register_same 5 low one) refl
+      to_number_same home mirror low bound body (first_below bound low) one
   loop_same next counter mirror low high body None bound one two =
       rw (assign_same low next one, assign_same high (next + 4) two) refl
   loop_same next counter mirror low high body (Some home) None one two =

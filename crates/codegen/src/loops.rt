@@ -1,16 +1,17 @@
 // The code of loops. One whose counter has a home, and whose body sets the counter nowhere and is short, counts there,
 // and its test stands behind the body. In any other the next number lies in the frame, and the test comes first.
 
-ghost use Rattle.std.specs.Prelude.{◌≡◌, ◌++◌, ◌+◌, ◌*◌, ◌<◌, ◌≤◌, [], ◌∷◌, length, None, Some, IfErr, OnOk};
+ghost use Rattle.std.specs.Prelude.{◌≡◌, ◌++◌, ◌+◌, ◌*◌, ◌<◌, ◌≤◌, [], ◌∷◌, length, None, Some, IfErr, IfSome, OnOk};
 ghost use Rattle.codegen.specs.private.Loops.{bounds_code, test_code, count_code, below_number_code, below_word_code};
-ghost use Rattle.codegen.specs.private.Loops.{counting_home, guarded_code, is_below, repeat_code, short_number};
+ghost use Rattle.codegen.specs.private.Loops.{begin_code, counted_code, last_number_code};
+ghost use Rattle.codegen.specs.private.Loops.{counting_home, first_below, guarded_code, repeat_code, short_number};
 ghost use Rattle.codegen.specs.private.Loops.{to_number_code, to_word_code, iterations_code};
 ghost use Rattle.codegen.specs.private.Jumps.{IsFar};
 ghost use Rattle.codegen.specs.private.Placed.{IsPlaced};
 ghost use Rattle.codegen.specs.Below.{Addi, Immediate, term_tree};
 
-use crate::expression_code::emit::{MINUS_ONE, NEAR, load, store};
-use crate::expression_code::{Layout, Location, WORD_BYTES, into, move_register};
+use crate::expression_code::emit::{FIELDS, MINUS_ONE, NEAR, load, lower_part, store};
+use crate::expression_code::{Layout, Location, WORD_BYTES, move_register};
 use crate::jumping;
 use crate::reading::{assign, read};
 use crate::unemitted::Unemitted;
@@ -58,13 +59,14 @@ fn short_number(bound: &Term) -> Option<u32>
     }
 }
 
-/// Whether the first number is known to be below the bound.
-fn is_below(bound: u32, low: &Term) -> bool
-    ensures { result ≡ is_below bound (term_tree low.now) }
+/// A first number that is known to be below the bound.
+fn first_below(bound: u32, low: &Term) -> Option<u32>
+    ensures number { result ≡ first_below bound (term_tree low.now) }
+    ensures below { IfSome result (λ first_number. first_number < bound) }
 {
     match low {
-        Term::Number(number, _) => *number < bound,
-        _ => false,
+        Term::Number(number, _) if *number < bound => Some(*number),
+        _ => None,
     }
 }
 
@@ -152,6 +154,51 @@ fn guarded(
     jumping::branch(code, below, arm.as_slice(), &[])
 }
 
+/// One less than the first number into a home.
+fn begin(code: &mut Vec<Instr>, home: Reg, first_number: u32) -> Result<(), AllocError>
+    requires { first_number < 2048 }
+    ensures { OnOk result (code.new.items ≡ code.old.items ++ begin_code home first_number) }
+{
+    let less_one = lower_part(first_number + MINUS_ONE);
+    code.push(Instr::Immediate(ImmediateOperation::Addi, home, Reg::X0, less_one))?;
+    Ok(())
+}
+
+/// How much a home is above the last number, which is 0 at that one alone.
+fn last_number(code: &mut Vec<Instr>, target: Reg, home: Reg, last: u32) -> Result<(), AllocError>
+    requires { last < 2048 }
+    ensures { OnOk result (code.new.items ≡ code.old.items ++ last_number_code target home last) }
+{
+    let less_last = lower_part(FIELDS - last);
+    code.push(Instr::Immediate(ImmediateOperation::Addi, target, home, less_last))?;
+    Ok(())
+}
+
+/// The iterations from a number up to another: the next number comes first, and the test stands behind the body.
+fn counted(
+    alloc: Global,
+    code: &mut Vec<Instr>,
+    first_number: u32,
+    last: u32,
+    counting: &Counting<'_>,
+) -> Result<(), AllocError>
+    requires first_number { first_number < 2048 }
+    requires last { last < 2048 }
+    requires body { length counting.now.body.now < 1000 }
+    requires mirror { length counting.now.mirror.now ≤ 2 }
+    ensures { OnOk result (code.new.items ≡ code.old.items
+        ++ counted_code counting.now.home counting.now.mirror.now first_number last counting.now.body.now) }
+{
+    let home = counting.home;
+    let mut iteration = Vec::new(alloc);
+    add(&mut iteration, home, 1)?;
+    iteration.extend_from_slice(counting.mirror)?;
+    iteration.extend_from_slice(counting.body)?;
+    last_number(&mut iteration, Reg::X5, home, last)?;
+    begin(code, home, first_number)?;
+    jumping::again(code, Reg::X5, iteration.as_slice())
+}
+
 /// A loop that counts up to a number.
 fn to_number(
     alloc: Global,
@@ -167,16 +214,13 @@ fn to_number(
     requires mirror { length counting.now.mirror.now ≤ 2 }
     ensures { OnOk result (code.new.items ≡ code.old.items
         ++ to_number_code layout.now counting.now.home counting.now.mirror.now (term_tree low.now) bound
-        counting.now.body.now) }
+        counting.now.body.now (first_below bound (term_tree low.now))) }
 {
-    let home = counting.home;
-    let mut test = Vec::new(alloc);
-    below_number(&mut test, Reg::X5, home, bound)?;
-    if is_below(bound, low) {
-        into(layout, code, home, 0, low)?;
-        code.extend_from_slice(counting.mirror)?;
-        return iterations(alloc, code, test.as_slice(), counting);
+    if let Some(first_number) = first_below(bound, low) {
+        return counted(alloc, code, first_number, bound - 1, counting);
     }
+    let mut test = Vec::new(alloc);
+    below_number(&mut test, Reg::X5, counting.home, bound)?;
     let start = read(code, layout, Reg::X5, 0, low)?;
     below_number(code, Reg::X6, start, bound)?;
     guarded(alloc, code, Reg::X6, start, test.as_slice(), counting)

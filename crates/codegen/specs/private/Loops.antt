@@ -1,15 +1,15 @@
 -- The instructions that are emitted for loops. A loop whose counter has a home, and whose body sets the counter
 -- nowhere and is no longer than a branch reaches, counts there, and its test stands behind the body. In any other the
 -- next number lies in the frame, and the test comes first.
-use Rattle.std.specs.Prelude.{ℕ, ◌+◌, ◌==◌, ◌&&◌, ◌||◌, Bool, false, not, nat_lt, List, [], ◌∷◌, ◌++◌, length}
+use Rattle.std.specs.Prelude.{ℕ, ◌+◌, ◌-◌, ◌==◌, ◌&&◌, ◌||◌, Bool, false, not, nat_lt, List, [], ◌∷◌, ◌++◌, length}
 use Rattle.std.specs.Prelude.{Option, None, Some, if◌then◌else◌}
 use Rattle.codegen.specs.Below.{Addi, array, branch, first, Immediate, Instr, nothing, number, put}
 use Rattle.codegen.specs.Below.{Register, repeats, set, Sltiu, Sltu, StraightBlock, StraightTree, take, TermTree}
 use Rattle.codegen.specs.private.Jumps.{again_code, branch_code, loop_code}
 use Rattle.codegen.specs.private.Words.{assign_code, put_word_code, read_code, read_register}
-use Rattle.codegen.specs.expression_code.Layout.{Frame, next_offset, term_layout, variable_location}
-use Rattle.codegen.specs.expression_code.Registers.{value_register, second_register}
-use Rattle.codegen.specs.expression_code.TermCode.{into_code, is_near, load_code, mirror_code, move_code, store_code}
+use Rattle.codegen.specs.expression_code.Layout.{Frame, next_offset, variable_location}
+use Rattle.codegen.specs.expression_code.Registers.{value_register, second_register, zero_register}
+use Rattle.codegen.specs.expression_code.TermCode.{is_near, load_code, lower_part, mirror_code, move_code, store_code}
 use Rattle.codegen.specs.declared.expression_code.locations.Location.{Location}
 use Rattle.codegen.specs.declared.expression_code.locations.Location.TheVariants.{InRegister, InSlot}
 
@@ -56,9 +56,9 @@ short_number (number value kind) = if is_near value then Some value else None
 short_number e = None
 
 -- a first number that is known to be below the bound
-abbrev pub is_below : ℕ → TermTree → Bool
-is_below bound (number value kind) = nat_lt value bound
-is_below bound e = false
+abbrev pub first_below : ℕ → TermTree → Option ℕ
+first_below bound (number value kind) = if nat_lt value bound then Some value else None
+first_below bound e = None
 
 -- whether a register is below a number
 abbrev pub below_number_code : ℕ → ℕ → ℕ → List Instr
@@ -69,13 +69,30 @@ abbrev pub below_word_code : ℕ → ℕ → List Instr
 below_word_code home next =
     load_code value_register (next + 4) ++ Register Sltu value_register home value_register ∷ []
 
--- up to a number
-abbrev pub to_number_code : Frame → ℕ → List Instr → TermTree → ℕ → List Instr → List Instr
-to_number_code layout home mirror low bound body =
-    if is_below bound low
-    then (into_code (term_layout layout) home 0 low ++ mirror)
-    ++ iterations_code home mirror (below_number_code value_register home bound) body
-    else read_code layout value_register 0 low
+-- one less than the first number into a home
+abbrev pub begin_code : ℕ → ℕ → List Instr
+begin_code home first_number = Immediate Addi home zero_register (lower_part (first_number + 4095)) ∷ []
+
+-- how much a home is above the last number, which is 0 at that one alone
+abbrev pub last_number_code : ℕ → ℕ → ℕ → List Instr
+last_number_code d home last = Immediate Addi d home (lower_part (4096 - last)) ∷ []
+
+-- the next number into the home, which its mirror follows, and the body
+abbrev pub iteration_code : ℕ → List Instr → ℕ → List Instr → List Instr
+iteration_code home mirror last body =
+    Immediate Addi home home 1 ∷ (mirror ++ (body ++ last_number_code value_register home last))
+
+-- from a number up to another, again and again until the home has the last one
+abbrev pub counted_code : ℕ → List Instr → ℕ → ℕ → List Instr → List Instr
+counted_code home mirror first_number last body =
+    begin_code home first_number ++ again_code value_register (iteration_code home mirror last body)
+
+-- up to a number, from a number below it or from any
+abbrev pub to_number_code : Frame → ℕ → List Instr → TermTree → ℕ → List Instr → Option ℕ → List Instr
+to_number_code layout home mirror low bound body (Some first_number) =
+    counted_code home mirror first_number (bound - 1) body
+to_number_code layout home mirror low bound body None =
+    read_code layout value_register 0 low
     ++ (below_number_code second_register (read_register layout.allocation value_register low) bound
     ++ guarded_code second_register home mirror (read_register layout.allocation value_register low)
     (below_number_code value_register home bound) body)
@@ -111,7 +128,7 @@ to_word_code next counter mirror body (Some home) =
 abbrev pub loop_from : Frame → ℕ → Location → List Instr → TermTree → TermTree → List Instr → Option ℕ → Option ℕ
     → List Instr
 loop_from layout next counter mirror low high body (Some home) (Some bound) =
-    to_number_code layout home mirror low bound body
+    to_number_code layout home mirror low bound body (first_below bound low)
 loop_from layout next counter mirror low high body home bound =
     bounds_code layout next low high ++ to_word_code next counter mirror body home
 

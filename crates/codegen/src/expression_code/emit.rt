@@ -16,6 +16,9 @@ use std::alloc::AllocError;
 /// What 12 bits hold as a number that is not negative.
 pub const NEAR: u32 = 2048;
 
+/// How many numbers 12 bits have.
+pub const FIELDS: u32 = 4096;
+
 /// -1 as 12 bits.
 pub const MINUS_ONE: u32 = 4095;
 
