@@ -6,7 +6,7 @@
 #define FACT_ed25519_decode_H
 #include <stdbool.h>
 #include <stdint.h>
-#define ed25519_decode_STACK_BYTES 944
+#define ed25519_decode_STACK_BYTES 928
 #ifdef __cplusplus
 extern "C" {
 #endif

@@ -6,7 +6,7 @@
 #define FACT_ed25519_scalar_multiply_H
 #include <stdbool.h>
 #include <stdint.h>
-#define ed25519_scalar_multiply_STACK_BYTES 2112
+#define ed25519_scalar_multiply_STACK_BYTES 2096
 #ifdef __cplusplus
 extern "C" {
 #endif

@@ -6,7 +6,7 @@
 #define FACT_f25519_invert_H
 #include <stdbool.h>
 #include <stdint.h>
-#define f25519_invert_STACK_BYTES 800
+#define f25519_invert_STACK_BYTES 784
 #ifdef __cplusplus
 extern "C" {
 #endif

@@ -6,7 +6,7 @@
 #define FACT_ed25519_decode_H
 #include <stdbool.h>
 #include <stdint.h>
-#define ed25519_decode_STACK_BYTES 1216
+#define ed25519_decode_STACK_BYTES 1120
 #ifdef __cplusplus
 extern "C" {
 #endif

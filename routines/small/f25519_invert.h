@@ -6,7 +6,7 @@
 #define FACT_f25519_invert_H
 #include <stdbool.h>
 #include <stdint.h>
-#define f25519_invert_STACK_BYTES 896
+#define f25519_invert_STACK_BYTES 848
 #ifdef __cplusplus
 extern "C" {
 #endif
