@@ -6,7 +6,7 @@
 #define FACT_p256_scalar_multiply_H
 #include <stdbool.h>
 #include <stdint.h>
-#define p256_scalar_multiply_STACK_BYTES 2672
+#define p256_scalar_multiply_STACK_BYTES 2656
 #ifdef __cplusplus
 extern "C" {
 #endif

@@ -75,7 +75,7 @@ modular_power_128:
     # the body
     .word 0x000102b7  # lui x5, 0x00010
     .word 0xfff28293  # addi x5, x5, -1
-    .word 0x0c512423  # sw x5, 200(x2)
+    .word 0x0a512e23  # sw x5, 188(x2)
     .word 0x04012283  # lw x5, 64(x2)
     .word 0x04412303  # lw x6, 68(x2)
     .word 0x01031313  # slli x6, x6, 16
@@ -93,17 +93,17 @@ modular_power_128:
     .word 0x01031313  # slli x6, x6, 16
     .word 0x0062e8b3  # or x17, x5, x6
     .word 0x08e12023  # sw x14, 128(x2)
-    .word 0x0c012823  # sw x0, 208(x2)
+    .word 0x0c012223  # sw x0, 196(x2)
     .word 0x00400293  # addi x5, x0, 4
-    .word 0x0c512a23  # sw x5, 212(x2)
-    .word 0x0d012303  # lw x6, 208(x2)
-    .word 0x0d412283  # lw x5, 212(x2)
+    .word 0x0c512423  # sw x5, 200(x2)
+    .word 0x0c412303  # lw x6, 196(x2)
+    .word 0x0c812283  # lw x5, 200(x2)
     .word 0x005332b3  # sltu x5, x6, x5
     .word 0x00029463  # bne x5, x0, 8
     .word 0x0300006f  # jal x0, 48
-    .word 0x08612223  # sw x6, 132(x2)
+    .word 0x08612c23  # sw x6, 152(x2)
     .word 0x00130313  # addi x6, x6, 1
-    .word 0x0c612823  # sw x6, 208(x2)
+    .word 0x0c612223  # sw x6, 196(x2)
     .word 0x08012283  # lw x5, 128(x2)
     .word 0x00200313  # addi x6, x0, 2
     .word 0x08012403  # lw x8, 128(x2)
@@ -117,64 +117,64 @@ modular_power_128:
     .word 0x08512023  # sw x5, 128(x2)
     .word 0x00100913  # addi x18, x0, 1
     .word 0x00000993  # addi x19, x0, 0
-    .word 0x0a012423  # sw x0, 168(x2)
-    .word 0x0a012623  # sw x0, 172(x2)
+    .word 0x08012e23  # sw x0, 156(x2)
+    .word 0x0a012023  # sw x0, 160(x2)
     .word 0x00012283  # lw x5, 0(x2)
     .word 0x00412303  # lw x6, 4(x2)
     .word 0x01031313  # slli x6, x6, 16
     .word 0x0062e2b3  # or x5, x5, x6
-    .word 0x0a512823  # sw x5, 176(x2)
+    .word 0x0a512223  # sw x5, 164(x2)
     .word 0x00812283  # lw x5, 8(x2)
     .word 0x00c12303  # lw x6, 12(x2)
     .word 0x01031313  # slli x6, x6, 16
     .word 0x0062e2b3  # or x5, x5, x6
-    .word 0x0a512a23  # sw x5, 180(x2)
+    .word 0x0a512423  # sw x5, 168(x2)
     .word 0x01012283  # lw x5, 16(x2)
     .word 0x01412303  # lw x6, 20(x2)
     .word 0x01031313  # slli x6, x6, 16
     .word 0x0062e2b3  # or x5, x5, x6
-    .word 0x0a512c23  # sw x5, 184(x2)
+    .word 0x0a512623  # sw x5, 172(x2)
     .word 0x01812283  # lw x5, 24(x2)
     .word 0x01c12303  # lw x6, 28(x2)
     .word 0x01031313  # slli x6, x6, 16
     .word 0x0062e2b3  # or x5, x5, x6
-    .word 0x0a512e23  # sw x5, 188(x2)
-    .word 0x0c012823  # sw x0, 208(x2)
+    .word 0x0a512823  # sw x5, 176(x2)
+    .word 0x0c012223  # sw x0, 196(x2)
     .word 0x04000293  # addi x5, x0, 64
-    .word 0x0c512a23  # sw x5, 212(x2)
-    .word 0x0d012303  # lw x6, 208(x2)
-    .word 0x0d412283  # lw x5, 212(x2)
+    .word 0x0c512423  # sw x5, 200(x2)
+    .word 0x0c412303  # lw x6, 196(x2)
+    .word 0x0c812283  # lw x5, 200(x2)
     .word 0x005332b3  # sltu x5, x6, x5
     .word 0x00029463  # bne x5, x0, 8
     .word 0x1e40006f  # jal x0, 484
-    .word 0x08612423  # sw x6, 136(x2)
+    .word 0x08612a23  # sw x6, 148(x2)
     .word 0x00130313  # addi x6, x6, 1
-    .word 0x0c612823  # sw x6, 208(x2)
-    .word 0x0c012c23  # sw x0, 216(x2)
+    .word 0x0c612223  # sw x6, 196(x2)
+    .word 0x0c012623  # sw x0, 204(x2)
     .word 0x00200293  # addi x5, x0, 2
-    .word 0x0c512e23  # sw x5, 220(x2)
-    .word 0x0d812303  # lw x6, 216(x2)
-    .word 0x0dc12283  # lw x5, 220(x2)
+    .word 0x0c512823  # sw x5, 208(x2)
+    .word 0x0cc12303  # lw x6, 204(x2)
+    .word 0x0d012283  # lw x5, 208(x2)
     .word 0x005332b3  # sltu x5, x6, x5
     .word 0x00029463  # bne x5, x0, 8
     .word 0x1b40006f  # jal x0, 436
-    .word 0x08612623  # sw x6, 140(x2)
+    .word 0x08612c23  # sw x6, 152(x2)
     .word 0x00130313  # addi x6, x6, 1
-    .word 0x0c612c23  # sw x6, 216(x2)
+    .word 0x0c612623  # sw x6, 204(x2)
     .word 0x00191493  # slli x9, x18, 1
     .word 0x00199293  # slli x5, x19, 1
     .word 0x01f95313  # srli x6, x18, 31
     .word 0x0062ed33  # or x26, x5, x6
-    .word 0x0a812283  # lw x5, 168(x2)
+    .word 0x09c12283  # lw x5, 156(x2)
     .word 0x00129293  # slli x5, x5, 1
     .word 0x01f9d313  # srli x6, x19, 31
     .word 0x0062edb3  # or x27, x5, x6
-    .word 0x0ac12283  # lw x5, 172(x2)
+    .word 0x0a012283  # lw x5, 160(x2)
     .word 0x00129293  # slli x5, x5, 1
-    .word 0x0a812303  # lw x6, 168(x2)
+    .word 0x09c12303  # lw x6, 156(x2)
     .word 0x01f35313  # srli x6, x6, 31
     .word 0x0062eb33  # or x22, x5, x6
-    .word 0x0ac12283  # lw x5, 172(x2)
+    .word 0x0a012283  # lw x5, 160(x2)
     .word 0x01f2da93  # srli x21, x5, 31
     .word 0x40e48bb3  # sub x23, x9, x14
     .word 0x00e4b533  # sltu x10, x9, x14
@@ -205,29 +205,29 @@ modular_power_128:
     .word 0x01b5c2b3  # xor x5, x11, x27
     .word 0x00a2f2b3  # and x5, x5, x10
     .word 0x01b2c2b3  # xor x5, x5, x27
-    .word 0x0a512423  # sw x5, 168(x2)
+    .word 0x08512e23  # sw x5, 156(x2)
     .word 0x016a42b3  # xor x5, x20, x22
     .word 0x00a2f2b3  # and x5, x5, x10
     .word 0x0162c2b3  # xor x5, x5, x22
-    .word 0x0a512623  # sw x5, 172(x2)
-    .word 0x0b012283  # lw x5, 176(x2)
+    .word 0x0a512023  # sw x5, 160(x2)
+    .word 0x0a412283  # lw x5, 164(x2)
     .word 0x00129493  # slli x9, x5, 1
-    .word 0x0b412283  # lw x5, 180(x2)
+    .word 0x0a812283  # lw x5, 168(x2)
     .word 0x00129293  # slli x5, x5, 1
-    .word 0x0b012303  # lw x6, 176(x2)
+    .word 0x0a412303  # lw x6, 164(x2)
     .word 0x01f35313  # srli x6, x6, 31
     .word 0x0062ed33  # or x26, x5, x6
-    .word 0x0b812283  # lw x5, 184(x2)
+    .word 0x0ac12283  # lw x5, 172(x2)
     .word 0x00129293  # slli x5, x5, 1
-    .word 0x0b412303  # lw x6, 180(x2)
+    .word 0x0a812303  # lw x6, 168(x2)
     .word 0x01f35313  # srli x6, x6, 31
     .word 0x0062edb3  # or x27, x5, x6
-    .word 0x0bc12283  # lw x5, 188(x2)
+    .word 0x0b012283  # lw x5, 176(x2)
     .word 0x00129293  # slli x5, x5, 1
-    .word 0x0b812303  # lw x6, 184(x2)
+    .word 0x0ac12303  # lw x6, 172(x2)
     .word 0x01f35313  # srli x6, x6, 31
     .word 0x0062eb33  # or x22, x5, x6
-    .word 0x0bc12283  # lw x5, 188(x2)
+    .word 0x0b012283  # lw x5, 176(x2)
     .word 0x01f2da93  # srli x21, x5, 31
     .word 0x40e48bb3  # sub x23, x9, x14
     .word 0x00e4b533  # sltu x10, x9, x14
@@ -252,62 +252,62 @@ modular_power_128:
     .word 0x009bc2b3  # xor x5, x23, x9
     .word 0x00a2f2b3  # and x5, x5, x10
     .word 0x0092c2b3  # xor x5, x5, x9
-    .word 0x0a512823  # sw x5, 176(x2)
+    .word 0x0a512223  # sw x5, 164(x2)
     .word 0x01acc2b3  # xor x5, x25, x26
     .word 0x00a2f2b3  # and x5, x5, x10
     .word 0x01a2c2b3  # xor x5, x5, x26
-    .word 0x0a512a23  # sw x5, 180(x2)
+    .word 0x0a512423  # sw x5, 168(x2)
     .word 0x01b5c2b3  # xor x5, x11, x27
     .word 0x00a2f2b3  # and x5, x5, x10
     .word 0x01b2c2b3  # xor x5, x5, x27
-    .word 0x0a512c23  # sw x5, 184(x2)
+    .word 0x0a512623  # sw x5, 172(x2)
     .word 0x016a42b3  # xor x5, x20, x22
     .word 0x00a2f2b3  # and x5, x5, x10
     .word 0x0162c2b3  # xor x5, x5, x22
-    .word 0x0a512e23  # sw x5, 188(x2)
+    .word 0x0a512823  # sw x5, 176(x2)
     .word 0xe41ff06f  # jal x0, -448
     .word 0xe11ff06f  # jal x0, -496
-    .word 0x09212823  # sw x18, 144(x2)
-    .word 0x09312a23  # sw x19, 148(x2)
-    .word 0x0a812283  # lw x5, 168(x2)
-    .word 0x08512c23  # sw x5, 152(x2)
-    .word 0x0ac12283  # lw x5, 172(x2)
-    .word 0x08512e23  # sw x5, 156(x2)
+    .word 0x09212223  # sw x18, 132(x2)
+    .word 0x09312423  # sw x19, 136(x2)
+    .word 0x09c12283  # lw x5, 156(x2)
+    .word 0x08512623  # sw x5, 140(x2)
+    .word 0x0a012283  # lw x5, 160(x2)
+    .word 0x08512823  # sw x5, 144(x2)
     .word 0x00000a13  # addi x20, x0, 0
     .word 0x00000a93  # addi x21, x0, 0
-    .word 0x0c012023  # sw x0, 192(x2)
+    .word 0x0a012a23  # sw x0, 180(x2)
+    .word 0x0a012c23  # sw x0, 184(x2)
     .word 0x0c012223  # sw x0, 196(x2)
-    .word 0x0c012823  # sw x0, 208(x2)
     .word 0x10100293  # addi x5, x0, 257
-    .word 0x0c512a23  # sw x5, 212(x2)
-    .word 0x0d012303  # lw x6, 208(x2)
-    .word 0x0d412283  # lw x5, 212(x2)
+    .word 0x0c512423  # sw x5, 200(x2)
+    .word 0x0c412303  # lw x6, 196(x2)
+    .word 0x0c812283  # lw x5, 200(x2)
     .word 0x005332b3  # sltu x5, x6, x5
     .word 0x00029463  # bne x5, x0, 8
     .word 0x3100006f  # jal x0, 784
-    .word 0x0a612023  # sw x6, 160(x2)
+    .word 0x08612a23  # sw x6, 148(x2)
     .word 0x00130313  # addi x6, x6, 1
-    .word 0x0c612823  # sw x6, 208(x2)
-    .word 0x0a012283  # lw x5, 160(x2)
+    .word 0x0c612223  # sw x6, 196(x2)
+    .word 0x09412283  # lw x5, 148(x2)
     .word 0x10000313  # addi x6, x0, 256
     .word 0x00629c63  # bne x5, x6, 24
     .word 0x00100a13  # addi x20, x0, 1
     .word 0x00000a93  # addi x21, x0, 0
-    .word 0x0c012023  # sw x0, 192(x2)
-    .word 0x0c012223  # sw x0, 196(x2)
+    .word 0x0a012a23  # sw x0, 180(x2)
+    .word 0x0a012c23  # sw x0, 184(x2)
     .word 0x0c40006f  # jal x0, 196
-    .word 0x0a012283  # lw x5, 160(x2)
+    .word 0x09412283  # lw x5, 148(x2)
     .word 0x0012f293  # andi x5, x5, 1
     .word 0x02029063  # bne x5, x0, 32
-    .word 0x09012a03  # lw x20, 144(x2)
-    .word 0x09412a83  # lw x21, 148(x2)
-    .word 0x09812283  # lw x5, 152(x2)
-    .word 0x0c512023  # sw x5, 192(x2)
-    .word 0x09c12283  # lw x5, 156(x2)
-    .word 0x0c512223  # sw x5, 196(x2)
+    .word 0x08412a03  # lw x20, 132(x2)
+    .word 0x08812a83  # lw x21, 136(x2)
+    .word 0x08c12283  # lw x5, 140(x2)
+    .word 0x0a512a23  # sw x5, 180(x2)
+    .word 0x09012283  # lw x5, 144(x2)
+    .word 0x0a512c23  # sw x5, 184(x2)
     .word 0x09c0006f  # jal x0, 156
     .word 0x00700293  # addi x5, x0, 7
-    .word 0x0a012303  # lw x6, 160(x2)
+    .word 0x09412303  # lw x6, 148(x2)
     .word 0x00535313  # srli x6, x6, 5
     .word 0x406282b3  # sub x5, x5, x6
     .word 0x0072f293  # andi x5, x5, 7
@@ -315,56 +315,56 @@ modular_power_128:
     .word 0x00250533  # add x10, x10, x2
     .word 0x02052503  # lw x10, 32(x10)
     .word 0x00f00313  # addi x6, x0, 15
-    .word 0x0a012383  # lw x7, 160(x2)
+    .word 0x09412383  # lw x7, 148(x2)
     .word 0x0013d393  # srli x7, x7, 1
     .word 0x00f3f393  # andi x7, x7, 15
     .word 0x40730333  # sub x6, x6, x7
     .word 0x006552b3  # srl x5, x10, x6
     .word 0x0012f293  # andi x5, x5, 1
     .word 0x40500533  # sub x10, x0, x5
-    .word 0x0b012283  # lw x5, 176(x2)
+    .word 0x0a412283  # lw x5, 164(x2)
     .word 0x0122c2b3  # xor x5, x5, x18
     .word 0x00a2f2b3  # and x5, x5, x10
     .word 0x0122ca33  # xor x20, x5, x18
-    .word 0x0b412283  # lw x5, 180(x2)
+    .word 0x0a812283  # lw x5, 168(x2)
     .word 0x0132c2b3  # xor x5, x5, x19
     .word 0x00a2f2b3  # and x5, x5, x10
     .word 0x0132cab3  # xor x21, x5, x19
-    .word 0x0b812283  # lw x5, 184(x2)
-    .word 0x0a812303  # lw x6, 168(x2)
+    .word 0x0ac12283  # lw x5, 172(x2)
+    .word 0x09c12303  # lw x6, 156(x2)
     .word 0x0062c2b3  # xor x5, x5, x6
     .word 0x00a2f2b3  # and x5, x5, x10
-    .word 0x0a812303  # lw x6, 168(x2)
+    .word 0x09c12303  # lw x6, 156(x2)
     .word 0x0062c2b3  # xor x5, x5, x6
-    .word 0x0c512023  # sw x5, 192(x2)
-    .word 0x0bc12283  # lw x5, 188(x2)
-    .word 0x0ac12303  # lw x6, 172(x2)
+    .word 0x0a512a23  # sw x5, 180(x2)
+    .word 0x0b012283  # lw x5, 176(x2)
+    .word 0x0a012303  # lw x6, 160(x2)
     .word 0x0062c2b3  # xor x5, x5, x6
     .word 0x00a2f2b3  # and x5, x5, x10
-    .word 0x0ac12303  # lw x6, 172(x2)
+    .word 0x0a012303  # lw x6, 160(x2)
     .word 0x0062c2b3  # xor x5, x5, x6
-    .word 0x0c512223  # sw x5, 196(x2)
+    .word 0x0a512c23  # sw x5, 184(x2)
     .word 0x00000b13  # addi x22, x0, 0
     .word 0x00000b93  # addi x23, x0, 0
     .word 0x00000c13  # addi x24, x0, 0
     .word 0x00000c93  # addi x25, x0, 0
     .word 0x00000d13  # addi x26, x0, 0
     .word 0x00000d93  # addi x27, x0, 0
-    .word 0x0c012c23  # sw x0, 216(x2)
+    .word 0x0c012623  # sw x0, 204(x2)
     .word 0x00400293  # addi x5, x0, 4
-    .word 0x0c512e23  # sw x5, 220(x2)
-    .word 0x0d812303  # lw x6, 216(x2)
-    .word 0x0dc12283  # lw x5, 220(x2)
+    .word 0x0c512823  # sw x5, 208(x2)
+    .word 0x0cc12303  # lw x6, 204(x2)
+    .word 0x0d012283  # lw x5, 208(x2)
     .word 0x005332b3  # sltu x5, x6, x5
     .word 0x00029463  # bne x5, x0, 8
     .word 0x1580006f  # jal x0, 344
-    .word 0x0a612223  # sw x6, 164(x2)
+    .word 0x08612c23  # sw x6, 152(x2)
     .word 0x00130313  # addi x6, x6, 1
-    .word 0x0c612c23  # sw x6, 216(x2)
-    .word 0x0a412283  # lw x5, 164(x2)
+    .word 0x0c612623  # sw x6, 204(x2)
+    .word 0x09812283  # lw x5, 152(x2)
     .word 0x00229513  # slli x10, x5, 2
     .word 0x00250533  # add x10, x10, x2
-    .word 0x09052503  # lw x10, 144(x10)
+    .word 0x08452503  # lw x10, 132(x10)
     .word 0x034506b3  # mul x13, x10, x20
     .word 0x034534b3  # mulhu x9, x10, x20
     .word 0x00db05b3  # add x11, x22, x13
@@ -379,9 +379,9 @@ modular_power_128:
     .word 0x009b8bb3  # add x23, x23, x9
     .word 0x009bb333  # sltu x6, x23, x9
     .word 0x006684b3  # add x9, x13, x6
-    .word 0x0c012303  # lw x6, 192(x2)
+    .word 0x0b412303  # lw x6, 180(x2)
     .word 0x02650633  # mul x12, x10, x6
-    .word 0x0c012303  # lw x6, 192(x2)
+    .word 0x0b412303  # lw x6, 180(x2)
     .word 0x026536b3  # mulhu x13, x10, x6
     .word 0x00cc0c33  # add x24, x24, x12
     .word 0x00cc3333  # sltu x6, x24, x12
@@ -389,9 +389,9 @@ modular_power_128:
     .word 0x009c0c33  # add x24, x24, x9
     .word 0x009c3333  # sltu x6, x24, x9
     .word 0x006684b3  # add x9, x13, x6
-    .word 0x0c412303  # lw x6, 196(x2)
+    .word 0x0b812303  # lw x6, 184(x2)
     .word 0x026506b3  # mul x13, x10, x6
-    .word 0x0c412303  # lw x6, 196(x2)
+    .word 0x0b812303  # lw x6, 184(x2)
     .word 0x02653533  # mulhu x10, x10, x6
     .word 0x00dc8cb3  # add x25, x25, x13
     .word 0x00dcb333  # sltu x6, x25, x13
@@ -466,46 +466,46 @@ modular_power_128:
     .word 0x0164c2b3  # xor x5, x9, x22
     .word 0x00a2f2b3  # and x5, x5, x10
     .word 0x0162c2b3  # xor x5, x5, x22
-    .word 0x08512823  # sw x5, 144(x2)
+    .word 0x08512223  # sw x5, 132(x2)
     .word 0x0175c2b3  # xor x5, x11, x23
     .word 0x00a2f2b3  # and x5, x5, x10
     .word 0x0172c2b3  # xor x5, x5, x23
-    .word 0x08512a23  # sw x5, 148(x2)
+    .word 0x08512423  # sw x5, 136(x2)
     .word 0x0186c2b3  # xor x5, x13, x24
     .word 0x00a2f2b3  # and x5, x5, x10
     .word 0x0182c2b3  # xor x5, x5, x24
-    .word 0x08512c23  # sw x5, 152(x2)
+    .word 0x08512623  # sw x5, 140(x2)
     .word 0x019642b3  # xor x5, x12, x25
     .word 0x00a2f2b3  # and x5, x5, x10
     .word 0x0192c2b3  # xor x5, x5, x25
-    .word 0x08512e23  # sw x5, 156(x2)
+    .word 0x08512823  # sw x5, 144(x2)
     .word 0xce5ff06f  # jal x0, -796
-    .word 0x09012283  # lw x5, 144(x2)
-    .word 0x0c812303  # lw x6, 200(x2)
+    .word 0x08412283  # lw x5, 132(x2)
+    .word 0x0bc12303  # lw x6, 188(x2)
     .word 0x0062f2b3  # and x5, x5, x6
     .word 0x06512023  # sw x5, 96(x2)
-    .word 0x09012283  # lw x5, 144(x2)
+    .word 0x08412283  # lw x5, 132(x2)
     .word 0x0102d293  # srli x5, x5, 16
     .word 0x06512223  # sw x5, 100(x2)
-    .word 0x09412283  # lw x5, 148(x2)
-    .word 0x0c812303  # lw x6, 200(x2)
+    .word 0x08812283  # lw x5, 136(x2)
+    .word 0x0bc12303  # lw x6, 188(x2)
     .word 0x0062f2b3  # and x5, x5, x6
     .word 0x06512423  # sw x5, 104(x2)
-    .word 0x09412283  # lw x5, 148(x2)
+    .word 0x08812283  # lw x5, 136(x2)
     .word 0x0102d293  # srli x5, x5, 16
     .word 0x06512623  # sw x5, 108(x2)
-    .word 0x09812283  # lw x5, 152(x2)
-    .word 0x0c812303  # lw x6, 200(x2)
+    .word 0x08c12283  # lw x5, 140(x2)
+    .word 0x0bc12303  # lw x6, 188(x2)
     .word 0x0062f2b3  # and x5, x5, x6
     .word 0x06512823  # sw x5, 112(x2)
-    .word 0x09812283  # lw x5, 152(x2)
+    .word 0x08c12283  # lw x5, 140(x2)
     .word 0x0102d293  # srli x5, x5, 16
     .word 0x06512a23  # sw x5, 116(x2)
-    .word 0x09c12283  # lw x5, 156(x2)
-    .word 0x0c812303  # lw x6, 200(x2)
+    .word 0x09012283  # lw x5, 144(x2)
+    .word 0x0bc12303  # lw x6, 188(x2)
     .word 0x0062f2b3  # and x5, x5, x6
     .word 0x06512c23  # sw x5, 120(x2)
-    .word 0x09c12283  # lw x5, 156(x2)
+    .word 0x09012283  # lw x5, 144(x2)
     .word 0x0102d293  # srli x5, x5, 16
     .word 0x06512e23  # sw x5, 124(x2)
     # the result

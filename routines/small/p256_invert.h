@@ -6,7 +6,7 @@
 #define FACT_p256_invert_H
 #include <stdbool.h>
 #include <stdint.h>
-#define p256_invert_STACK_BYTES 896
+#define p256_invert_STACK_BYTES 848
 #ifdef __cplusplus
 extern "C" {
 #endif

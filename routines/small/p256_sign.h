@@ -6,7 +6,7 @@
 #define FACT_p256_sign_H
 #include <stdbool.h>
 #include <stdint.h>
-#define p256_sign_STACK_BYTES 1120
+#define p256_sign_STACK_BYTES 1024
 #ifdef __cplusplus
 extern "C" {
 #endif

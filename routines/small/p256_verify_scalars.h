@@ -6,7 +6,7 @@
 #define FACT_p256_verify_scalars_H
 #include <stdbool.h>
 #include <stdint.h>
-#define p256_verify_scalars_STACK_BYTES 928
+#define p256_verify_scalars_STACK_BYTES 848
 #ifdef __cplusplus
 extern "C" {
 #endif
