@@ -35,7 +35,7 @@ adler32:
     # the body
     .word 0x00012503  # lw x10, 0(x2)
     .word 0x04412583  # lw x11, 68(x2)
-    .word 0x00000793  # addi x15, x0, 0
+    .word 0x00000713  # addi x14, x0, 0
     .word 0x00000893  # addi x17, x0, 0
     .word 0x000109b7  # lui x19, 0x00010
     .word 0xff198993  # addi x19, x19, -15
@@ -48,18 +48,18 @@ adler32:
     .word 0x405002b3  # sub x5, x0, x5
     .word 0x00734333  # xor x6, x6, x7
     .word 0x00537333  # and x6, x6, x5
-    .word 0x0063c733  # xor x14, x7, x6
+    .word 0x0063c833  # xor x16, x7, x6
     .word 0x04012623  # sw x0, 76(x2)
-    .word 0x00375293  # srli x5, x14, 3
+    .word 0x00385293  # srli x5, x16, 3
     .word 0x04512823  # sw x5, 80(x2)
     .word 0x04c12303  # lw x6, 76(x2)
     .word 0x05012283  # lw x5, 80(x2)
     .word 0x005332b3  # sltu x5, x6, x5
     .word 0x00029463  # bne x5, x0, 8
     .word 0x0880006f  # jal x0, 136
-    .word 0x00030793  # addi x15, x6, 0
-    .word 0x00379813  # slli x16, x15, 3
-    .word 0x00280a33  # add x20, x16, x2
+    .word 0x00030713  # addi x14, x6, 0
+    .word 0x00371793  # slli x15, x14, 3
+    .word 0x00278a33  # add x20, x15, x2
     .word 0x004a4303  # lbu x6, 4(x20)
     .word 0x00660633  # add x12, x12, x6
     .word 0x00c686b3  # add x13, x13, x12
@@ -84,16 +84,16 @@ adler32:
     .word 0x00ba4303  # lbu x6, 11(x20)
     .word 0x00660633  # add x12, x12, x6
     .word 0x00c686b3  # add x13, x13, x12
-    .word 0x00178793  # addi x15, x15, 1
+    .word 0x00170713  # addi x14, x14, 1
     .word 0x05012283  # lw x5, 80(x2)
-    .word 0x0057b2b3  # sltu x5, x15, x5
+    .word 0x005732b3  # sltu x5, x14, x5
     .word 0xf80296e3  # bne x5, x0, -116
-    .word 0xfff78793  # addi x15, x15, -1
+    .word 0xfff70713  # addi x14, x14, -1
     .word 0x0040006f  # jal x0, 4
-    .word 0x00375293  # srli x5, x14, 3
+    .word 0x00385293  # srli x5, x16, 3
     .word 0x00329293  # slli x5, x5, 3
     .word 0x04512623  # sw x5, 76(x2)
-    .word 0x04e12823  # sw x14, 80(x2)
+    .word 0x05012823  # sw x16, 80(x2)
     .word 0x04c12303  # lw x6, 76(x2)
     .word 0x05012283  # lw x5, 80(x2)
     .word 0x005332b3  # sltu x5, x6, x5

@@ -1,4 +1,4 @@
-# aes128_decrypt_2: made by factc 1.0.0 function; 922 words, 528 bytes of stack, profile 1
+# aes128_decrypt_2: made by factc 1.0.0 function; 850 words, 528 bytes of stack, profile 1
     .option push
     .option norvc
     .option norelax
@@ -47,12 +47,12 @@ aes128_decrypt_2:
     .word 0x00050293  # addi x5, x10, 0
     .word 0x00010313  # addi x6, x2, 0
     .word 0x16028393  # addi x7, x5, 352
-    .word 0x5c900f6f  # jal x30, 3528
+    .word 0x4a900f6f  # jal x30, 3240
     # parameter 1: an array
     .word 0x00058293  # addi x5, x11, 0
     .word 0x16010313  # addi x6, x2, 352
     .word 0x02028393  # addi x7, x5, 32
-    .word 0x5b900f6f  # jal x30, 3512
+    .word 0x49900f6f  # jal x30, 3224
     # the body
     .word 0x555552b7  # lui x5, 0x55555
     .word 0x55528293  # addi x5, x5, 1365
@@ -69,86 +69,14 @@ aes128_decrypt_2:
     .word 0x330032b7  # lui x5, 0x33003
     .word 0x30028293  # addi x5, x5, 768
     .word 0x1a512e23  # sw x5, 444(x2)
-    .word 0x16014283  # lbu x5, 352(x2)
-    .word 0x16114303  # lbu x6, 353(x2)
-    .word 0x00831313  # slli x6, x6, 8
-    .word 0x0062e533  # or x10, x5, x6
-    .word 0x16214303  # lbu x6, 354(x2)
-    .word 0x01031313  # slli x6, x6, 16
-    .word 0x006562b3  # or x5, x10, x6
-    .word 0x16314303  # lbu x6, 355(x2)
-    .word 0x01831313  # slli x6, x6, 24
-    .word 0x0062eb33  # or x22, x5, x6
-    .word 0x17014283  # lbu x5, 368(x2)
-    .word 0x17114303  # lbu x6, 369(x2)
-    .word 0x00831313  # slli x6, x6, 8
-    .word 0x0062e533  # or x10, x5, x6
-    .word 0x17214303  # lbu x6, 370(x2)
-    .word 0x01031313  # slli x6, x6, 16
-    .word 0x006562b3  # or x5, x10, x6
-    .word 0x17314303  # lbu x6, 371(x2)
-    .word 0x01831313  # slli x6, x6, 24
-    .word 0x0062ebb3  # or x23, x5, x6
-    .word 0x16414283  # lbu x5, 356(x2)
-    .word 0x16514303  # lbu x6, 357(x2)
-    .word 0x00831313  # slli x6, x6, 8
-    .word 0x0062e533  # or x10, x5, x6
-    .word 0x16614303  # lbu x6, 358(x2)
-    .word 0x01031313  # slli x6, x6, 16
-    .word 0x006562b3  # or x5, x10, x6
-    .word 0x16714303  # lbu x6, 359(x2)
-    .word 0x01831313  # slli x6, x6, 24
-    .word 0x0062ec33  # or x24, x5, x6
-    .word 0x17414283  # lbu x5, 372(x2)
-    .word 0x17514303  # lbu x6, 373(x2)
-    .word 0x00831313  # slli x6, x6, 8
-    .word 0x0062e533  # or x10, x5, x6
-    .word 0x17614303  # lbu x6, 374(x2)
-    .word 0x01031313  # slli x6, x6, 16
-    .word 0x006562b3  # or x5, x10, x6
-    .word 0x17714303  # lbu x6, 375(x2)
-    .word 0x01831313  # slli x6, x6, 24
-    .word 0x0062ecb3  # or x25, x5, x6
-    .word 0x16814283  # lbu x5, 360(x2)
-    .word 0x16914303  # lbu x6, 361(x2)
-    .word 0x00831313  # slli x6, x6, 8
-    .word 0x0062e533  # or x10, x5, x6
-    .word 0x16a14303  # lbu x6, 362(x2)
-    .word 0x01031313  # slli x6, x6, 16
-    .word 0x006562b3  # or x5, x10, x6
-    .word 0x16b14303  # lbu x6, 363(x2)
-    .word 0x01831313  # slli x6, x6, 24
-    .word 0x0062ed33  # or x26, x5, x6
-    .word 0x17814283  # lbu x5, 376(x2)
-    .word 0x17914303  # lbu x6, 377(x2)
-    .word 0x00831313  # slli x6, x6, 8
-    .word 0x0062e533  # or x10, x5, x6
-    .word 0x17a14303  # lbu x6, 378(x2)
-    .word 0x01031313  # slli x6, x6, 16
-    .word 0x006562b3  # or x5, x10, x6
-    .word 0x17b14303  # lbu x6, 379(x2)
-    .word 0x01831313  # slli x6, x6, 24
-    .word 0x0062edb3  # or x27, x5, x6
-    .word 0x16c14283  # lbu x5, 364(x2)
-    .word 0x16d14303  # lbu x6, 365(x2)
-    .word 0x00831313  # slli x6, x6, 8
-    .word 0x0062e533  # or x10, x5, x6
-    .word 0x16e14303  # lbu x6, 366(x2)
-    .word 0x01031313  # slli x6, x6, 16
-    .word 0x006562b3  # or x5, x10, x6
-    .word 0x16f14303  # lbu x6, 367(x2)
-    .word 0x01831313  # slli x6, x6, 24
-    .word 0x0062e433  # or x8, x5, x6
-    .word 0x17c14283  # lbu x5, 380(x2)
-    .word 0x17d14303  # lbu x6, 381(x2)
-    .word 0x00831313  # slli x6, x6, 8
-    .word 0x0062e533  # or x10, x5, x6
-    .word 0x17e14303  # lbu x6, 382(x2)
-    .word 0x01031313  # slli x6, x6, 16
-    .word 0x006562b3  # or x5, x10, x6
-    .word 0x17f14303  # lbu x6, 383(x2)
-    .word 0x01831313  # slli x6, x6, 24
-    .word 0x0062e4b3  # or x9, x5, x6
+    .word 0x16012b03  # lw x22, 352(x2)
+    .word 0x17012b83  # lw x23, 368(x2)
+    .word 0x16412c03  # lw x24, 356(x2)
+    .word 0x17412c83  # lw x25, 372(x2)
+    .word 0x16812d03  # lw x26, 360(x2)
+    .word 0x17812d83  # lw x27, 376(x2)
+    .word 0x16c12403  # lw x8, 364(x2)
+    .word 0x17c12483  # lw x9, 380(x2)
     .word 0x001b5293  # srli x5, x22, 1
     .word 0x0172c2b3  # xor x5, x5, x23
     .word 0x1ac12303  # lw x6, 428(x2)
@@ -257,7 +185,7 @@ aes128_decrypt_2:
     .word 0x005332b3  # sltu x5, x6, x5
     .word 0x00029463  # bne x5, x0, 8
     .word 0x7bc0006f  # jal x0, 1980
-    .word 0x18612023  # sw x6, 384(x2)
+    .word 0x1a612423  # sw x6, 424(x2)
     .word 0x00130313  # addi x6, x6, 1
     .word 0x1c612223  # sw x6, 452(x2)
     .word 0x004b5313  # srli x6, x22, 4
@@ -403,64 +331,64 @@ aes128_decrypt_2:
     .word 0x01b44533  # xor x10, x8, x27
     .word 0x016545b3  # xor x11, x10, x22
     .word 0x01a5c2b3  # xor x5, x11, x26
-    .word 0x18512223  # sw x5, 388(x2)
+    .word 0x18512023  # sw x5, 384(x2)
     .word 0x00c6c833  # xor x16, x13, x12
     .word 0x0095c2b3  # xor x5, x11, x9
-    .word 0x18512423  # sw x5, 392(x2)
+    .word 0x18512223  # sw x5, 388(x2)
     .word 0x0175c8b3  # xor x17, x11, x23
     .word 0x00f8c2b3  # xor x5, x17, x15
-    .word 0x18512623  # sw x5, 396(x2)
+    .word 0x18512423  # sw x5, 392(x2)
     .word 0x010ccd33  # xor x26, x25, x16
     .word 0x018d4cb3  # xor x25, x26, x24
     .word 0x008d4d33  # xor x26, x26, x8
     .word 0x016cc2b3  # xor x5, x25, x22
-    .word 0x18512823  # sw x5, 400(x2)
+    .word 0x18512623  # sw x5, 396(x2)
     .word 0x00accbb3  # xor x23, x25, x10
     .word 0x00ed4c33  # xor x24, x26, x14
     .word 0x018b42b3  # xor x5, x22, x24
-    .word 0x18512a23  # sw x5, 404(x2)
+    .word 0x18512823  # sw x5, 400(x2)
     .word 0x018bc2b3  # xor x5, x23, x24
-    .word 0x18512c23  # sw x5, 408(x2)
+    .word 0x18512a23  # sw x5, 404(x2)
     .word 0x00fbcdb3  # xor x27, x23, x15
     .word 0x01854433  # xor x8, x10, x24
     .word 0x0086c9b3  # xor x19, x13, x8
     .word 0x0084ca33  # xor x20, x9, x8
     .word 0x01987533  # and x10, x16, x25
-    .word 0x18c12283  # lw x5, 396(x2)
-    .word 0x19012303  # lw x6, 400(x2)
+    .word 0x18812283  # lw x5, 392(x2)
+    .word 0x18c12303  # lw x6, 396(x2)
     .word 0x0062f4b3  # and x9, x5, x6
     .word 0x00a4c933  # xor x18, x9, x10
-    .word 0x18412283  # lw x5, 388(x2)
+    .word 0x18012283  # lw x5, 384(x2)
     .word 0x0162f4b3  # and x9, x5, x22
     .word 0x00a4cab3  # xor x21, x9, x10
     .word 0x0086f533  # and x10, x13, x8
     .word 0x00b8f4b3  # and x9, x17, x11
     .word 0x00a4c2b3  # xor x5, x9, x10
-    .word 0x1a512223  # sw x5, 420(x2)
-    .word 0x18812283  # lw x5, 392(x2)
-    .word 0x19412303  # lw x6, 404(x2)
+    .word 0x1a512023  # sw x5, 416(x2)
+    .word 0x18412283  # lw x5, 388(x2)
+    .word 0x19012303  # lw x6, 400(x2)
     .word 0x0062f4b3  # and x9, x5, x6
     .word 0x00a4c2b3  # xor x5, x9, x10
-    .word 0x18512e23  # sw x5, 412(x2)
+    .word 0x18512c23  # sw x5, 408(x2)
     .word 0x01877533  # and x10, x14, x24
-    .word 0x19812303  # lw x6, 408(x2)
+    .word 0x19412303  # lw x6, 404(x2)
     .word 0x006674b3  # and x9, x12, x6
     .word 0x00a4c4b3  # xor x9, x9, x10
     .word 0x0177f2b3  # and x5, x15, x23
-    .word 0x1a512023  # sw x5, 416(x2)
-    .word 0x1a012283  # lw x5, 416(x2)
+    .word 0x18512e23  # sw x5, 412(x2)
+    .word 0x19c12283  # lw x5, 412(x2)
     .word 0x00a2c533  # xor x10, x5, x10
     .word 0x00994933  # xor x18, x18, x9
     .word 0x00aacab3  # xor x21, x21, x10
-    .word 0x1a412283  # lw x5, 420(x2)
+    .word 0x1a012283  # lw x5, 416(x2)
     .word 0x0092c4b3  # xor x9, x5, x9
-    .word 0x19c12283  # lw x5, 412(x2)
+    .word 0x19812283  # lw x5, 408(x2)
     .word 0x00a2c2b3  # xor x5, x5, x10
-    .word 0x1a512223  # sw x5, 420(x2)
+    .word 0x1a512023  # sw x5, 416(x2)
     .word 0x01a94d33  # xor x26, x18, x26
     .word 0x01bac533  # xor x10, x21, x27
     .word 0x0134cdb3  # xor x27, x9, x19
-    .word 0x1a412283  # lw x5, 420(x2)
+    .word 0x1a012283  # lw x5, 416(x2)
     .word 0x0142c4b3  # xor x9, x5, x20
     .word 0x00ad4a33  # xor x20, x26, x10
     .word 0x01bd7933  # and x18, x26, x27
@@ -483,50 +411,50 @@ aes128_decrypt_2:
     .word 0x01bd4933  # xor x18, x26, x27
     .word 0x00954ab3  # xor x21, x10, x9
     .word 0x013a42b3  # xor x5, x20, x19
-    .word 0x1a512223  # sw x5, 420(x2)
+    .word 0x1a512023  # sw x5, 416(x2)
     .word 0x019af2b3  # and x5, x21, x25
-    .word 0x18512e23  # sw x5, 412(x2)
-    .word 0x19012303  # lw x6, 400(x2)
+    .word 0x18512c23  # sw x5, 408(x2)
+    .word 0x18c12303  # lw x6, 396(x2)
     .word 0x0064f2b3  # and x5, x9, x6
-    .word 0x18512823  # sw x5, 400(x2)
+    .word 0x18512623  # sw x5, 396(x2)
     .word 0x01657b33  # and x22, x10, x22
     .word 0x00897cb3  # and x25, x18, x8
     .word 0x00bdf433  # and x8, x27, x11
-    .word 0x19412303  # lw x6, 404(x2)
+    .word 0x19012303  # lw x6, 400(x2)
     .word 0x006d75b3  # and x11, x26, x6
     .word 0x018a72b3  # and x5, x20, x24
-    .word 0x18512a23  # sw x5, 404(x2)
-    .word 0x1a412283  # lw x5, 420(x2)
-    .word 0x19812303  # lw x6, 408(x2)
+    .word 0x18512823  # sw x5, 400(x2)
+    .word 0x1a012283  # lw x5, 416(x2)
+    .word 0x19412303  # lw x6, 404(x2)
     .word 0x0062fc33  # and x24, x5, x6
     .word 0x0179f2b3  # and x5, x19, x23
-    .word 0x18512c23  # sw x5, 408(x2)
+    .word 0x18512a23  # sw x5, 404(x2)
     .word 0x010af833  # and x16, x21, x16
-    .word 0x18c12303  # lw x6, 396(x2)
+    .word 0x18812303  # lw x6, 392(x2)
     .word 0x0064f4b3  # and x9, x9, x6
-    .word 0x18412303  # lw x6, 388(x2)
+    .word 0x18012303  # lw x6, 384(x2)
     .word 0x006572b3  # and x5, x10, x6
-    .word 0x18512223  # sw x5, 388(x2)
+    .word 0x18512023  # sw x5, 384(x2)
     .word 0x00d97533  # and x10, x18, x13
     .word 0x011dfdb3  # and x27, x27, x17
-    .word 0x18812303  # lw x6, 392(x2)
+    .word 0x18412303  # lw x6, 388(x2)
     .word 0x006d76b3  # and x13, x26, x6
     .word 0x00ea7bb3  # and x23, x20, x14
-    .word 0x1a412283  # lw x5, 420(x2)
+    .word 0x1a012283  # lw x5, 416(x2)
     .word 0x00c2fd33  # and x26, x5, x12
     .word 0x00f9f7b3  # and x15, x19, x15
     .word 0x01abcbb3  # xor x23, x23, x26
-    .word 0x18412303  # lw x6, 388(x2)
+    .word 0x18012303  # lw x6, 384(x2)
     .word 0x0064c633  # xor x12, x9, x6
     .word 0x01b5cdb3  # xor x27, x11, x27
     .word 0x00984733  # xor x14, x16, x9
     .word 0x00ab4833  # xor x16, x22, x10
     .word 0x00bb45b3  # xor x11, x22, x11
-    .word 0x19812303  # lw x6, 408(x2)
+    .word 0x19412303  # lw x6, 404(x2)
     .word 0x006c48b3  # xor x17, x24, x6
-    .word 0x19c12283  # lw x5, 412(x2)
+    .word 0x19812283  # lw x5, 408(x2)
     .word 0x0192c4b3  # xor x9, x5, x25
-    .word 0x19412283  # lw x5, 404(x2)
+    .word 0x19012283  # lw x5, 400(x2)
     .word 0x0182cc33  # xor x24, x5, x24
     .word 0x00fd47b3  # xor x15, x26, x15
     .word 0x01b549b3  # xor x19, x10, x27
@@ -539,7 +467,7 @@ aes128_decrypt_2:
     .word 0x01674b33  # xor x22, x14, x22
     .word 0x01844d33  # xor x26, x8, x24
     .word 0x00acccb3  # xor x25, x25, x10
-    .word 0x19012283  # lw x5, 400(x2)
+    .word 0x18c12283  # lw x5, 396(x2)
     .word 0x0162cbb3  # xor x23, x5, x22
     .word 0x016c4b33  # xor x22, x24, x22
     .word 0x00a9c2b3  # xor x5, x19, x10
@@ -575,51 +503,51 @@ aes128_decrypt_2:
     .word 0x00f5c2b3  # xor x5, x11, x15
     .word 0x0162cb33  # xor x22, x5, x22
     .word 0x04800293  # addi x5, x0, 72
-    .word 0x18012303  # lw x6, 384(x2)
+    .word 0x1a812303  # lw x6, 424(x2)
     .word 0x00331313  # slli x6, x6, 3
     .word 0x406282b3  # sub x5, x5, x6
-    .word 0x1a512423  # sw x5, 424(x2)
-    .word 0x1a812303  # lw x6, 424(x2)
+    .word 0x1a512223  # sw x5, 420(x2)
+    .word 0x1a412303  # lw x6, 420(x2)
     .word 0x00231313  # slli x6, x6, 2
     .word 0x00230333  # add x6, x6, x2
     .word 0x00032303  # lw x6, 0(x6)
     .word 0x006b4b33  # xor x22, x22, x6
-    .word 0x1a812303  # lw x6, 424(x2)
+    .word 0x1a412303  # lw x6, 420(x2)
     .word 0x00231313  # slli x6, x6, 2
     .word 0x00230333  # add x6, x6, x2
     .word 0x00432303  # lw x6, 4(x6)
     .word 0x006bcbb3  # xor x23, x23, x6
-    .word 0x1a812303  # lw x6, 424(x2)
+    .word 0x1a412303  # lw x6, 420(x2)
     .word 0x00231313  # slli x6, x6, 2
     .word 0x00230333  # add x6, x6, x2
     .word 0x00832303  # lw x6, 8(x6)
     .word 0x006c4c33  # xor x24, x24, x6
-    .word 0x1a812303  # lw x6, 424(x2)
+    .word 0x1a412303  # lw x6, 420(x2)
     .word 0x00231313  # slli x6, x6, 2
     .word 0x00230333  # add x6, x6, x2
     .word 0x00c32303  # lw x6, 12(x6)
     .word 0x006cccb3  # xor x25, x25, x6
-    .word 0x1a812303  # lw x6, 424(x2)
+    .word 0x1a412303  # lw x6, 420(x2)
     .word 0x00231313  # slli x6, x6, 2
     .word 0x00230333  # add x6, x6, x2
     .word 0x01032303  # lw x6, 16(x6)
     .word 0x006d4d33  # xor x26, x26, x6
-    .word 0x1a812303  # lw x6, 424(x2)
+    .word 0x1a412303  # lw x6, 420(x2)
     .word 0x00231313  # slli x6, x6, 2
     .word 0x00230333  # add x6, x6, x2
     .word 0x01432303  # lw x6, 20(x6)
     .word 0x006dcdb3  # xor x27, x27, x6
-    .word 0x1a812303  # lw x6, 424(x2)
+    .word 0x1a412303  # lw x6, 420(x2)
     .word 0x00231313  # slli x6, x6, 2
     .word 0x00230333  # add x6, x6, x2
     .word 0x01832303  # lw x6, 24(x6)
     .word 0x00644433  # xor x8, x8, x6
-    .word 0x1a812303  # lw x6, 424(x2)
+    .word 0x1a412303  # lw x6, 420(x2)
     .word 0x00231313  # slli x6, x6, 2
     .word 0x00230333  # add x6, x6, x2
     .word 0x01c32303  # lw x6, 28(x6)
     .word 0x0064c4b3  # xor x9, x9, x6
-    .word 0x18012283  # lw x5, 384(x2)
+    .word 0x1a812283  # lw x5, 424(x2)
     .word 0x00900313  # addi x6, x0, 9
     .word 0x2062f263  # bgeu x5, x6, 516
     .word 0x010b1f13  # slli x30, x22, 16

@@ -1,4 +1,4 @@
-# aes128_encrypt_2: made by factc 1.0.0 function; 822 words, 528 bytes of stack, profile 1
+# aes128_encrypt_2: made by factc 1.0.0 function; 750 words, 528 bytes of stack, profile 1
     .option push
     .option norvc
     .option norelax
@@ -47,12 +47,12 @@ aes128_encrypt_2:
     .word 0x00050293  # addi x5, x10, 0
     .word 0x00010313  # addi x6, x2, 0
     .word 0x16028393  # addi x7, x5, 352
-    .word 0x43900f6f  # jal x30, 3128
+    .word 0x31900f6f  # jal x30, 2840
     # parameter 1: an array
     .word 0x00058293  # addi x5, x11, 0
     .word 0x16010313  # addi x6, x2, 352
     .word 0x02028393  # addi x7, x5, 32
-    .word 0x42900f6f  # jal x30, 3112
+    .word 0x30900f6f  # jal x30, 2824
     # the body
     .word 0x555552b7  # lui x5, 0x55555
     .word 0x55528293  # addi x5, x5, 1365
@@ -68,86 +68,14 @@ aes128_encrypt_2:
     .word 0x330032b7  # lui x5, 0x33003
     .word 0x30028293  # addi x5, x5, 768
     .word 0x1c512023  # sw x5, 448(x2)
-    .word 0x16014283  # lbu x5, 352(x2)
-    .word 0x16114303  # lbu x6, 353(x2)
-    .word 0x00831313  # slli x6, x6, 8
-    .word 0x0062e8b3  # or x17, x5, x6
-    .word 0x16214303  # lbu x6, 354(x2)
-    .word 0x01031313  # slli x6, x6, 16
-    .word 0x0068e2b3  # or x5, x17, x6
-    .word 0x16314303  # lbu x6, 355(x2)
-    .word 0x01831313  # slli x6, x6, 24
-    .word 0x0062ea33  # or x20, x5, x6
-    .word 0x17014283  # lbu x5, 368(x2)
-    .word 0x17114303  # lbu x6, 369(x2)
-    .word 0x00831313  # slli x6, x6, 8
-    .word 0x0062e8b3  # or x17, x5, x6
-    .word 0x17214303  # lbu x6, 370(x2)
-    .word 0x01031313  # slli x6, x6, 16
-    .word 0x0068e2b3  # or x5, x17, x6
-    .word 0x17314303  # lbu x6, 371(x2)
-    .word 0x01831313  # slli x6, x6, 24
-    .word 0x0062eab3  # or x21, x5, x6
-    .word 0x16414283  # lbu x5, 356(x2)
-    .word 0x16514303  # lbu x6, 357(x2)
-    .word 0x00831313  # slli x6, x6, 8
-    .word 0x0062e8b3  # or x17, x5, x6
-    .word 0x16614303  # lbu x6, 358(x2)
-    .word 0x01031313  # slli x6, x6, 16
-    .word 0x0068e2b3  # or x5, x17, x6
-    .word 0x16714303  # lbu x6, 359(x2)
-    .word 0x01831313  # slli x6, x6, 24
-    .word 0x0062eb33  # or x22, x5, x6
-    .word 0x17414283  # lbu x5, 372(x2)
-    .word 0x17514303  # lbu x6, 373(x2)
-    .word 0x00831313  # slli x6, x6, 8
-    .word 0x0062e8b3  # or x17, x5, x6
-    .word 0x17614303  # lbu x6, 374(x2)
-    .word 0x01031313  # slli x6, x6, 16
-    .word 0x0068e2b3  # or x5, x17, x6
-    .word 0x17714303  # lbu x6, 375(x2)
-    .word 0x01831313  # slli x6, x6, 24
-    .word 0x0062ebb3  # or x23, x5, x6
-    .word 0x16814283  # lbu x5, 360(x2)
-    .word 0x16914303  # lbu x6, 361(x2)
-    .word 0x00831313  # slli x6, x6, 8
-    .word 0x0062e8b3  # or x17, x5, x6
-    .word 0x16a14303  # lbu x6, 362(x2)
-    .word 0x01031313  # slli x6, x6, 16
-    .word 0x0068e2b3  # or x5, x17, x6
-    .word 0x16b14303  # lbu x6, 363(x2)
-    .word 0x01831313  # slli x6, x6, 24
-    .word 0x0062ec33  # or x24, x5, x6
-    .word 0x17814283  # lbu x5, 376(x2)
-    .word 0x17914303  # lbu x6, 377(x2)
-    .word 0x00831313  # slli x6, x6, 8
-    .word 0x0062e8b3  # or x17, x5, x6
-    .word 0x17a14303  # lbu x6, 378(x2)
-    .word 0x01031313  # slli x6, x6, 16
-    .word 0x0068e2b3  # or x5, x17, x6
-    .word 0x17b14303  # lbu x6, 379(x2)
-    .word 0x01831313  # slli x6, x6, 24
-    .word 0x0062ecb3  # or x25, x5, x6
-    .word 0x16c14283  # lbu x5, 364(x2)
-    .word 0x16d14303  # lbu x6, 365(x2)
-    .word 0x00831313  # slli x6, x6, 8
-    .word 0x0062e8b3  # or x17, x5, x6
-    .word 0x16e14303  # lbu x6, 366(x2)
-    .word 0x01031313  # slli x6, x6, 16
-    .word 0x0068e2b3  # or x5, x17, x6
-    .word 0x16f14303  # lbu x6, 367(x2)
-    .word 0x01831313  # slli x6, x6, 24
-    .word 0x0062ed33  # or x26, x5, x6
-    .word 0x17c14283  # lbu x5, 380(x2)
-    .word 0x17d14303  # lbu x6, 381(x2)
-    .word 0x00831313  # slli x6, x6, 8
-    .word 0x0062e8b3  # or x17, x5, x6
-    .word 0x17e14303  # lbu x6, 382(x2)
-    .word 0x01031313  # slli x6, x6, 16
-    .word 0x0068e2b3  # or x5, x17, x6
-    .word 0x17f14303  # lbu x6, 383(x2)
-    .word 0x01831313  # slli x6, x6, 24
-    .word 0x0062edb3  # or x27, x5, x6
+    .word 0x16012a03  # lw x20, 352(x2)
+    .word 0x17012a83  # lw x21, 368(x2)
+    .word 0x16412b03  # lw x22, 356(x2)
+    .word 0x17412b83  # lw x23, 372(x2)
+    .word 0x16812c03  # lw x24, 360(x2)
+    .word 0x17812c83  # lw x25, 376(x2)
+    .word 0x16c12d03  # lw x26, 364(x2)
+    .word 0x17c12d83  # lw x27, 380(x2)
     .word 0x001a5293  # srli x5, x20, 1
     .word 0x0152c2b3  # xor x5, x5, x21
     .word 0x1b412303  # lw x6, 436(x2)
@@ -257,85 +185,85 @@ aes128_encrypt_2:
     .word 0x005332b3  # sltu x5, x6, x5
     .word 0x00029463  # bne x5, x0, 8
     .word 0x62c0006f  # jal x0, 1580
-    .word 0x18612023  # sw x6, 384(x2)
+    .word 0x1a612823  # sw x6, 432(x2)
     .word 0x00130313  # addi x6, x6, 1
     .word 0x1c612423  # sw x6, 456(x2)
     .word 0x016c42b3  # xor x5, x24, x22
-    .word 0x18512223  # sw x5, 388(x2)
+    .word 0x18512023  # sw x5, 384(x2)
     .word 0x015dc7b3  # xor x15, x27, x21
     .word 0x018dc2b3  # xor x5, x27, x24
-    .word 0x18512423  # sw x5, 392(x2)
+    .word 0x18512223  # sw x5, 388(x2)
     .word 0x016dc833  # xor x16, x27, x22
     .word 0x019d48b3  # xor x17, x26, x25
     .word 0x0148c933  # xor x18, x17, x20
     .word 0x018942b3  # xor x5, x18, x24
-    .word 0x18512623  # sw x5, 396(x2)
-    .word 0x18412303  # lw x6, 388(x2)
+    .word 0x18512423  # sw x5, 392(x2)
+    .word 0x18012303  # lw x6, 384(x2)
     .word 0x0067c533  # xor x10, x15, x6
     .word 0x01b942b3  # xor x5, x18, x27
-    .word 0x18512823  # sw x5, 400(x2)
+    .word 0x18512623  # sw x5, 396(x2)
     .word 0x015942b3  # xor x5, x18, x21
-    .word 0x18512a23  # sw x5, 404(x2)
-    .word 0x19412283  # lw x5, 404(x2)
+    .word 0x18512823  # sw x5, 400(x2)
+    .word 0x19012283  # lw x5, 400(x2)
     .word 0x0102c2b3  # xor x5, x5, x16
-    .word 0x18512c23  # sw x5, 408(x2)
+    .word 0x18512a23  # sw x5, 404(x2)
     .word 0x00abcab3  # xor x21, x23, x10
     .word 0x016acc33  # xor x24, x21, x22
     .word 0x01aacbb3  # xor x23, x21, x26
     .word 0x014c42b3  # xor x5, x24, x20
-    .word 0x18512e23  # sw x5, 412(x2)
+    .word 0x18512c23  # sw x5, 408(x2)
     .word 0x011c4ab3  # xor x21, x24, x17
-    .word 0x18812303  # lw x6, 392(x2)
+    .word 0x18412303  # lw x6, 388(x2)
     .word 0x006bcb33  # xor x22, x23, x6
     .word 0x016a42b3  # xor x5, x20, x22
-    .word 0x1a512023  # sw x5, 416(x2)
+    .word 0x18512e23  # sw x5, 412(x2)
     .word 0x016ac2b3  # xor x5, x21, x22
-    .word 0x1a512223  # sw x5, 420(x2)
+    .word 0x1a512023  # sw x5, 416(x2)
     .word 0x010accb3  # xor x25, x21, x16
     .word 0x0168cd33  # xor x26, x17, x22
     .word 0x01a7c633  # xor x12, x15, x26
     .word 0x01adc6b3  # xor x13, x27, x26
     .word 0x018578b3  # and x17, x10, x24
-    .word 0x19812283  # lw x5, 408(x2)
-    .word 0x19c12303  # lw x6, 412(x2)
+    .word 0x19412283  # lw x5, 404(x2)
+    .word 0x19812303  # lw x6, 408(x2)
     .word 0x0062fdb3  # and x27, x5, x6
     .word 0x011dc5b3  # xor x11, x27, x17
-    .word 0x18c12283  # lw x5, 396(x2)
+    .word 0x18812283  # lw x5, 392(x2)
     .word 0x0142fdb3  # and x27, x5, x20
     .word 0x011dc733  # xor x14, x27, x17
     .word 0x01a7f8b3  # and x17, x15, x26
-    .word 0x19412283  # lw x5, 404(x2)
+    .word 0x19012283  # lw x5, 400(x2)
     .word 0x0122fdb3  # and x27, x5, x18
     .word 0x011dc2b3  # xor x5, x27, x17
-    .word 0x1a512823  # sw x5, 432(x2)
-    .word 0x19012283  # lw x5, 400(x2)
-    .word 0x1a012303  # lw x6, 416(x2)
+    .word 0x1a512623  # sw x5, 428(x2)
+    .word 0x18c12283  # lw x5, 396(x2)
+    .word 0x19c12303  # lw x6, 412(x2)
     .word 0x0062fdb3  # and x27, x5, x6
     .word 0x011dc2b3  # xor x5, x27, x17
-    .word 0x1a512423  # sw x5, 424(x2)
-    .word 0x18812283  # lw x5, 392(x2)
-    .word 0x0162f8b3  # and x17, x5, x22
+    .word 0x1a512223  # sw x5, 420(x2)
     .word 0x18412283  # lw x5, 388(x2)
-    .word 0x1a412303  # lw x6, 420(x2)
+    .word 0x0162f8b3  # and x17, x5, x22
+    .word 0x18012283  # lw x5, 384(x2)
+    .word 0x1a012303  # lw x6, 416(x2)
     .word 0x0062fdb3  # and x27, x5, x6
     .word 0x011dcdb3  # xor x27, x27, x17
     .word 0x015872b3  # and x5, x16, x21
-    .word 0x1a512623  # sw x5, 428(x2)
-    .word 0x1ac12283  # lw x5, 428(x2)
+    .word 0x1a512423  # sw x5, 424(x2)
+    .word 0x1a812283  # lw x5, 424(x2)
     .word 0x0112c8b3  # xor x17, x5, x17
     .word 0x01b5c5b3  # xor x11, x11, x27
     .word 0x01174733  # xor x14, x14, x17
-    .word 0x1b012283  # lw x5, 432(x2)
+    .word 0x1ac12283  # lw x5, 428(x2)
     .word 0x01b2c2b3  # xor x5, x5, x27
-    .word 0x1a512823  # sw x5, 432(x2)
-    .word 0x1a812283  # lw x5, 424(x2)
+    .word 0x1a512623  # sw x5, 428(x2)
+    .word 0x1a412283  # lw x5, 420(x2)
     .word 0x0112c2b3  # xor x5, x5, x17
-    .word 0x1a512423  # sw x5, 424(x2)
+    .word 0x1a512223  # sw x5, 420(x2)
     .word 0x0175cdb3  # xor x27, x11, x23
     .word 0x019748b3  # xor x17, x14, x25
-    .word 0x1b012283  # lw x5, 432(x2)
+    .word 0x1ac12283  # lw x5, 428(x2)
     .word 0x00c2ccb3  # xor x25, x5, x12
-    .word 0x1a812283  # lw x5, 424(x2)
+    .word 0x1a412283  # lw x5, 420(x2)
     .word 0x00d2cbb3  # xor x23, x5, x13
     .word 0x011dc6b3  # xor x13, x27, x17
     .word 0x019df5b3  # and x11, x27, x25
@@ -358,60 +286,60 @@ aes128_encrypt_2:
     .word 0x019dc5b3  # xor x11, x27, x25
     .word 0x0178c733  # xor x14, x17, x23
     .word 0x00c6c2b3  # xor x5, x13, x12
-    .word 0x1a512823  # sw x5, 432(x2)
+    .word 0x1a512623  # sw x5, 428(x2)
     .word 0x018772b3  # and x5, x14, x24
-    .word 0x1a512423  # sw x5, 424(x2)
-    .word 0x19c12303  # lw x6, 412(x2)
+    .word 0x1a512223  # sw x5, 420(x2)
+    .word 0x19812303  # lw x6, 408(x2)
     .word 0x006bf2b3  # and x5, x23, x6
-    .word 0x18512e23  # sw x5, 412(x2)
+    .word 0x18512c23  # sw x5, 408(x2)
     .word 0x0148fa33  # and x20, x17, x20
     .word 0x01a5fc33  # and x24, x11, x26
     .word 0x012cf933  # and x18, x25, x18
-    .word 0x1a012303  # lw x6, 416(x2)
+    .word 0x19c12303  # lw x6, 412(x2)
     .word 0x006dfd33  # and x26, x27, x6
     .word 0x0166f2b3  # and x5, x13, x22
-    .word 0x1a512023  # sw x5, 416(x2)
-    .word 0x1b012283  # lw x5, 432(x2)
-    .word 0x1a412303  # lw x6, 420(x2)
+    .word 0x18512e23  # sw x5, 412(x2)
+    .word 0x1ac12283  # lw x5, 428(x2)
+    .word 0x1a012303  # lw x6, 416(x2)
     .word 0x0062fb33  # and x22, x5, x6
     .word 0x015672b3  # and x5, x12, x21
-    .word 0x1a512223  # sw x5, 420(x2)
+    .word 0x1a512023  # sw x5, 416(x2)
     .word 0x00a77533  # and x10, x14, x10
-    .word 0x19812303  # lw x6, 408(x2)
-    .word 0x006bfab3  # and x21, x23, x6
-    .word 0x18c12303  # lw x6, 396(x2)
-    .word 0x0068f2b3  # and x5, x17, x6
-    .word 0x18512623  # sw x5, 396(x2)
-    .word 0x00f5f8b3  # and x17, x11, x15
     .word 0x19412303  # lw x6, 404(x2)
-    .word 0x006cfcb3  # and x25, x25, x6
-    .word 0x19012303  # lw x6, 400(x2)
-    .word 0x006df7b3  # and x15, x27, x6
+    .word 0x006bfab3  # and x21, x23, x6
     .word 0x18812303  # lw x6, 392(x2)
-    .word 0x0066fbb3  # and x23, x13, x6
-    .word 0x1b012283  # lw x5, 432(x2)
+    .word 0x0068f2b3  # and x5, x17, x6
+    .word 0x18512423  # sw x5, 392(x2)
+    .word 0x00f5f8b3  # and x17, x11, x15
+    .word 0x19012303  # lw x6, 400(x2)
+    .word 0x006cfcb3  # and x25, x25, x6
+    .word 0x18c12303  # lw x6, 396(x2)
+    .word 0x006df7b3  # and x15, x27, x6
     .word 0x18412303  # lw x6, 388(x2)
+    .word 0x0066fbb3  # and x23, x13, x6
+    .word 0x1ac12283  # lw x5, 428(x2)
+    .word 0x18012303  # lw x6, 384(x2)
     .word 0x0062fdb3  # and x27, x5, x6
     .word 0x01067833  # and x16, x12, x16
     .word 0x01bbcbb3  # xor x23, x23, x27
-    .word 0x18c12303  # lw x6, 396(x2)
+    .word 0x18812303  # lw x6, 392(x2)
     .word 0x006ac2b3  # xor x5, x21, x6
-    .word 0x18512223  # sw x5, 388(x2)
+    .word 0x18512023  # sw x5, 384(x2)
     .word 0x019d4cb3  # xor x25, x26, x25
     .word 0x01554ab3  # xor x21, x10, x21
     .word 0x011a42b3  # xor x5, x20, x17
-    .word 0x18512423  # sw x5, 392(x2)
+    .word 0x18512223  # sw x5, 388(x2)
     .word 0x01aa4533  # xor x10, x20, x26
-    .word 0x1a412303  # lw x6, 420(x2)
+    .word 0x1a012303  # lw x6, 416(x2)
     .word 0x006b4d33  # xor x26, x22, x6
-    .word 0x1a812283  # lw x5, 424(x2)
+    .word 0x1a412283  # lw x5, 420(x2)
     .word 0x0182ca33  # xor x20, x5, x24
-    .word 0x1a012283  # lw x5, 416(x2)
+    .word 0x19c12283  # lw x5, 412(x2)
     .word 0x0162cb33  # xor x22, x5, x22
     .word 0x010dc2b3  # xor x5, x27, x16
-    .word 0x18512a23  # sw x5, 404(x2)
+    .word 0x18512823  # sw x5, 400(x2)
     .word 0x0198c833  # xor x16, x17, x25
-    .word 0x18812283  # lw x5, 392(x2)
+    .word 0x18412283  # lw x5, 388(x2)
     .word 0x0142c8b3  # xor x17, x5, x20
     .word 0x01794db3  # xor x27, x18, x23
     .word 0x016c4b33  # xor x22, x24, x22
@@ -421,7 +349,7 @@ aes128_encrypt_2:
     .word 0x01bacdb3  # xor x27, x21, x27
     .word 0x01694ab3  # xor x21, x18, x22
     .word 0x011c4d33  # xor x26, x24, x17
-    .word 0x19c12283  # lw x5, 412(x2)
+    .word 0x19812283  # lw x5, 408(x2)
     .word 0x01b2cc33  # xor x24, x5, x27
     .word 0x01bb47b3  # xor x15, x22, x27
     .word 0x011842b3  # xor x5, x16, x17
@@ -431,11 +359,11 @@ aes128_encrypt_2:
     .word 0x01aac8b3  # xor x17, x21, x26
     .word 0x018a4db3  # xor x27, x20, x24
     .word 0x01854c33  # xor x24, x10, x24
-    .word 0x18412283  # lw x5, 388(x2)
+    .word 0x18012283  # lw x5, 384(x2)
     .word 0x01a2cd33  # xor x26, x5, x26
     .word 0x01bac2b3  # xor x5, x21, x27
     .word 0xfff2c813  # xori x16, x5, -1
-    .word 0x19412283  # lw x5, 404(x2)
+    .word 0x19012283  # lw x5, 400(x2)
     .word 0x0112c2b3  # xor x5, x5, x17
     .word 0xfff2cc93  # xori x25, x5, -1
     .word 0x00495313  # srli x6, x18, 4
@@ -542,7 +470,7 @@ aes128_encrypt_2:
     .word 0x0128c2b3  # xor x5, x17, x18
     .word 0x00291313  # slli x6, x18, 2
     .word 0x0062cdb3  # xor x27, x5, x6
-    .word 0x18012283  # lw x5, 384(x2)
+    .word 0x1b012283  # lw x5, 432(x2)
     .word 0x00a00313  # addi x6, x0, 10
     .word 0x1462fc63  # bgeu x5, x6, 344
     .word 0x018a1f13  # slli x30, x20, 24
@@ -567,7 +495,7 @@ aes128_encrypt_2:
     .word 0x008b5913  # srli x18, x22, 8
     .word 0x012f0933  # add x18, x30, x18
     .word 0x012b48b3  # xor x17, x22, x18
-    .word 0x19112223  # sw x17, 388(x2)
+    .word 0x19112023  # sw x17, 384(x2)
     .word 0x01089f13  # slli x30, x17, 16
     .word 0x0108d313  # srli x6, x17, 16
     .word 0x006f0333  # add x6, x30, x6
@@ -576,7 +504,7 @@ aes128_encrypt_2:
     .word 0x008bd913  # srli x18, x23, 8
     .word 0x012f0933  # add x18, x30, x18
     .word 0x012bc8b3  # xor x17, x23, x18
-    .word 0x19112423  # sw x17, 392(x2)
+    .word 0x19112223  # sw x17, 388(x2)
     .word 0x01089f13  # slli x30, x17, 16
     .word 0x0108d313  # srli x6, x17, 16
     .word 0x006f0333  # add x6, x30, x6
@@ -594,7 +522,7 @@ aes128_encrypt_2:
     .word 0x008cd913  # srli x18, x25, 8
     .word 0x012f0933  # add x18, x30, x18
     .word 0x012cc8b3  # xor x17, x25, x18
-    .word 0x19112a23  # sw x17, 404(x2)
+    .word 0x19112823  # sw x17, 400(x2)
     .word 0x01089f13  # slli x30, x17, 16
     .word 0x0108d313  # srli x6, x17, 16
     .word 0x006f0333  # add x6, x30, x6
@@ -620,17 +548,17 @@ aes128_encrypt_2:
     .word 0x00fac2b3  # xor x5, x21, x15
     .word 0x0112cab3  # xor x21, x5, x17
     .word 0x010b4b33  # xor x22, x22, x16
-    .word 0x18412303  # lw x6, 388(x2)
+    .word 0x18012303  # lw x6, 384(x2)
     .word 0x006bc2b3  # xor x5, x23, x6
     .word 0x0112cbb3  # xor x23, x5, x17
-    .word 0x18812303  # lw x6, 392(x2)
+    .word 0x18412303  # lw x6, 388(x2)
     .word 0x006c42b3  # xor x5, x24, x6
     .word 0x0112cc33  # xor x24, x5, x17
     .word 0x00acccb3  # xor x25, x25, x10
-    .word 0x19412303  # lw x6, 404(x2)
+    .word 0x19012303  # lw x6, 400(x2)
     .word 0x006d4d33  # xor x26, x26, x6
     .word 0x00c94db3  # xor x27, x18, x12
-    .word 0x18012283  # lw x5, 384(x2)
+    .word 0x1b012283  # lw x5, 432(x2)
     .word 0x00329993  # slli x19, x5, 3
     .word 0x00299493  # slli x9, x19, 2
     .word 0x002484b3  # add x9, x9, x2

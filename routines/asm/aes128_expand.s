@@ -1,4 +1,4 @@
-# aes128_expand: made by factc 1.0.0 function; 686 words, 560 bytes of stack, profile 1
+# aes128_expand: made by factc 1.0.0 function; 649 words, 560 bytes of stack, profile 1
     .option push
     .option norvc
     .option norelax
@@ -45,7 +45,7 @@ aes128_expand:
     .word 0x00050293  # addi x5, x10, 0
     .word 0x00010313  # addi x6, x2, 0
     .word 0x01028393  # addi x7, x5, 16
-    .word 0x21d00f6f  # jal x30, 2588
+    .word 0x18900f6f  # jal x30, 2440
     # the body
     .word 0x00000513  # addi x10, x0, 0
     .word 0x555552b7  # lui x5, 0x55555
@@ -65,46 +65,10 @@ aes128_expand:
     .word 0xf0f0f2b7  # lui x5, 0xf0f0f
     .word 0x0f028293  # addi x5, x5, 240
     .word 0x1c512e23  # sw x5, 476(x2)
-    .word 0x00014283  # lbu x5, 0(x2)
-    .word 0x00114303  # lbu x6, 1(x2)
-    .word 0x00831313  # slli x6, x6, 8
-    .word 0x0062ea33  # or x20, x5, x6
-    .word 0x00214303  # lbu x6, 2(x2)
-    .word 0x01031313  # slli x6, x6, 16
-    .word 0x006a62b3  # or x5, x20, x6
-    .word 0x00314303  # lbu x6, 3(x2)
-    .word 0x01831313  # slli x6, x6, 24
-    .word 0x0062eab3  # or x21, x5, x6
-    .word 0x00414283  # lbu x5, 4(x2)
-    .word 0x00514303  # lbu x6, 5(x2)
-    .word 0x00831313  # slli x6, x6, 8
-    .word 0x0062ea33  # or x20, x5, x6
-    .word 0x00614303  # lbu x6, 6(x2)
-    .word 0x01031313  # slli x6, x6, 16
-    .word 0x006a62b3  # or x5, x20, x6
-    .word 0x00714303  # lbu x6, 7(x2)
-    .word 0x01831313  # slli x6, x6, 24
-    .word 0x0062ebb3  # or x23, x5, x6
-    .word 0x00814283  # lbu x5, 8(x2)
-    .word 0x00914303  # lbu x6, 9(x2)
-    .word 0x00831313  # slli x6, x6, 8
-    .word 0x0062ea33  # or x20, x5, x6
-    .word 0x00a14303  # lbu x6, 10(x2)
-    .word 0x01031313  # slli x6, x6, 16
-    .word 0x006a62b3  # or x5, x20, x6
-    .word 0x00b14303  # lbu x6, 11(x2)
-    .word 0x01831313  # slli x6, x6, 24
-    .word 0x0062ecb3  # or x25, x5, x6
-    .word 0x00c14283  # lbu x5, 12(x2)
-    .word 0x00d14303  # lbu x6, 13(x2)
-    .word 0x00831313  # slli x6, x6, 8
-    .word 0x0062ea33  # or x20, x5, x6
-    .word 0x00e14303  # lbu x6, 14(x2)
-    .word 0x01031313  # slli x6, x6, 16
-    .word 0x006a62b3  # or x5, x20, x6
-    .word 0x00f14303  # lbu x6, 15(x2)
-    .word 0x01831313  # slli x6, x6, 24
-    .word 0x0062edb3  # or x27, x5, x6
+    .word 0x00012a83  # lw x21, 0(x2)
+    .word 0x00412b83  # lw x23, 4(x2)
+    .word 0x00812c83  # lw x25, 8(x2)
+    .word 0x00c12d83  # lw x27, 12(x2)
     .word 0x001ad293  # srli x5, x21, 1
     .word 0x0152c2b3  # xor x5, x5, x21
     .word 0x1cc12303  # lw x6, 460(x2)
@@ -217,7 +181,8 @@ aes128_expand:
     .word 0x18512823  # sw x5, 400(x2)
     .word 0x03600293  # addi x5, x0, 54
     .word 0x18512a23  # sw x5, 404(x2)
-    .word 0x00000513  # addi x10, x0, 0
+    .word 0xfff00513  # addi x10, x0, -1
+    .word 0x00150513  # addi x10, x10, 1
     .word 0x00251593  # slli x11, x10, 2
     .word 0x002585b3  # add x11, x11, x2
     .word 0x1705a583  # lw x11, 368(x11)
@@ -650,10 +615,8 @@ aes128_expand:
     .word 0x00229293  # slli x5, x5, 2
     .word 0x002282b3  # add x5, x5, x2
     .word 0x0342a823  # sw x20, 48(x5)
-    .word 0x00150513  # addi x10, x10, 1
-    .word 0x00a53293  # sltiu x5, x10, 10
+    .word 0xff750293  # addi x5, x10, -9
     .word 0x92029ce3  # bne x5, x0, -1736
-    .word 0xfff50513  # addi x10, x10, -1
     # the result
     .word 0x00000513  # addi x10, x0, 0
     # parameter 1: the array, back

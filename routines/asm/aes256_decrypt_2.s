@@ -1,4 +1,4 @@
-# aes256_decrypt_2: made by factc 1.0.0 function; 922 words, 656 bytes of stack, profile 1
+# aes256_decrypt_2: made by factc 1.0.0 function; 850 words, 656 bytes of stack, profile 1
     .option push
     .option norvc
     .option norelax
@@ -47,12 +47,12 @@ aes256_decrypt_2:
     .word 0x00050293  # addi x5, x10, 0
     .word 0x00010313  # addi x6, x2, 0
     .word 0x1e028393  # addi x7, x5, 480
-    .word 0x5c900f6f  # jal x30, 3528
+    .word 0x4a900f6f  # jal x30, 3240
     # parameter 1: an array
     .word 0x00058293  # addi x5, x11, 0
     .word 0x1e010313  # addi x6, x2, 480
     .word 0x02028393  # addi x7, x5, 32
-    .word 0x5b900f6f  # jal x30, 3512
+    .word 0x49900f6f  # jal x30, 3224
     # the body
     .word 0x555552b7  # lui x5, 0x55555
     .word 0x55528293  # addi x5, x5, 1365
@@ -69,86 +69,14 @@ aes256_decrypt_2:
     .word 0x330032b7  # lui x5, 0x33003
     .word 0x30028293  # addi x5, x5, 768
     .word 0x22512e23  # sw x5, 572(x2)
-    .word 0x1e014283  # lbu x5, 480(x2)
-    .word 0x1e114303  # lbu x6, 481(x2)
-    .word 0x00831313  # slli x6, x6, 8
-    .word 0x0062e533  # or x10, x5, x6
-    .word 0x1e214303  # lbu x6, 482(x2)
-    .word 0x01031313  # slli x6, x6, 16
-    .word 0x006562b3  # or x5, x10, x6
-    .word 0x1e314303  # lbu x6, 483(x2)
-    .word 0x01831313  # slli x6, x6, 24
-    .word 0x0062eb33  # or x22, x5, x6
-    .word 0x1f014283  # lbu x5, 496(x2)
-    .word 0x1f114303  # lbu x6, 497(x2)
-    .word 0x00831313  # slli x6, x6, 8
-    .word 0x0062e533  # or x10, x5, x6
-    .word 0x1f214303  # lbu x6, 498(x2)
-    .word 0x01031313  # slli x6, x6, 16
-    .word 0x006562b3  # or x5, x10, x6
-    .word 0x1f314303  # lbu x6, 499(x2)
-    .word 0x01831313  # slli x6, x6, 24
-    .word 0x0062ebb3  # or x23, x5, x6
-    .word 0x1e414283  # lbu x5, 484(x2)
-    .word 0x1e514303  # lbu x6, 485(x2)
-    .word 0x00831313  # slli x6, x6, 8
-    .word 0x0062e533  # or x10, x5, x6
-    .word 0x1e614303  # lbu x6, 486(x2)
-    .word 0x01031313  # slli x6, x6, 16
-    .word 0x006562b3  # or x5, x10, x6
-    .word 0x1e714303  # lbu x6, 487(x2)
-    .word 0x01831313  # slli x6, x6, 24
-    .word 0x0062ec33  # or x24, x5, x6
-    .word 0x1f414283  # lbu x5, 500(x2)
-    .word 0x1f514303  # lbu x6, 501(x2)
-    .word 0x00831313  # slli x6, x6, 8
-    .word 0x0062e533  # or x10, x5, x6
-    .word 0x1f614303  # lbu x6, 502(x2)
-    .word 0x01031313  # slli x6, x6, 16
-    .word 0x006562b3  # or x5, x10, x6
-    .word 0x1f714303  # lbu x6, 503(x2)
-    .word 0x01831313  # slli x6, x6, 24
-    .word 0x0062ecb3  # or x25, x5, x6
-    .word 0x1e814283  # lbu x5, 488(x2)
-    .word 0x1e914303  # lbu x6, 489(x2)
-    .word 0x00831313  # slli x6, x6, 8
-    .word 0x0062e533  # or x10, x5, x6
-    .word 0x1ea14303  # lbu x6, 490(x2)
-    .word 0x01031313  # slli x6, x6, 16
-    .word 0x006562b3  # or x5, x10, x6
-    .word 0x1eb14303  # lbu x6, 491(x2)
-    .word 0x01831313  # slli x6, x6, 24
-    .word 0x0062ed33  # or x26, x5, x6
-    .word 0x1f814283  # lbu x5, 504(x2)
-    .word 0x1f914303  # lbu x6, 505(x2)
-    .word 0x00831313  # slli x6, x6, 8
-    .word 0x0062e533  # or x10, x5, x6
-    .word 0x1fa14303  # lbu x6, 506(x2)
-    .word 0x01031313  # slli x6, x6, 16
-    .word 0x006562b3  # or x5, x10, x6
-    .word 0x1fb14303  # lbu x6, 507(x2)
-    .word 0x01831313  # slli x6, x6, 24
-    .word 0x0062edb3  # or x27, x5, x6
-    .word 0x1ec14283  # lbu x5, 492(x2)
-    .word 0x1ed14303  # lbu x6, 493(x2)
-    .word 0x00831313  # slli x6, x6, 8
-    .word 0x0062e533  # or x10, x5, x6
-    .word 0x1ee14303  # lbu x6, 494(x2)
-    .word 0x01031313  # slli x6, x6, 16
-    .word 0x006562b3  # or x5, x10, x6
-    .word 0x1ef14303  # lbu x6, 495(x2)
-    .word 0x01831313  # slli x6, x6, 24
-    .word 0x0062e433  # or x8, x5, x6
-    .word 0x1fc14283  # lbu x5, 508(x2)
-    .word 0x1fd14303  # lbu x6, 509(x2)
-    .word 0x00831313  # slli x6, x6, 8
-    .word 0x0062e533  # or x10, x5, x6
-    .word 0x1fe14303  # lbu x6, 510(x2)
-    .word 0x01031313  # slli x6, x6, 16
-    .word 0x006562b3  # or x5, x10, x6
-    .word 0x1ff14303  # lbu x6, 511(x2)
-    .word 0x01831313  # slli x6, x6, 24
-    .word 0x0062e4b3  # or x9, x5, x6
+    .word 0x1e012b03  # lw x22, 480(x2)
+    .word 0x1f012b83  # lw x23, 496(x2)
+    .word 0x1e412c03  # lw x24, 484(x2)
+    .word 0x1f412c83  # lw x25, 500(x2)
+    .word 0x1e812d03  # lw x26, 488(x2)
+    .word 0x1f812d83  # lw x27, 504(x2)
+    .word 0x1ec12403  # lw x8, 492(x2)
+    .word 0x1fc12483  # lw x9, 508(x2)
     .word 0x001b5293  # srli x5, x22, 1
     .word 0x0172c2b3  # xor x5, x5, x23
     .word 0x22c12303  # lw x6, 556(x2)
@@ -257,7 +185,7 @@ aes256_decrypt_2:
     .word 0x005332b3  # sltu x5, x6, x5
     .word 0x00029463  # bne x5, x0, 8
     .word 0x7bc0006f  # jal x0, 1980
-    .word 0x20612023  # sw x6, 512(x2)
+    .word 0x22612423  # sw x6, 552(x2)
     .word 0x00130313  # addi x6, x6, 1
     .word 0x24612223  # sw x6, 580(x2)
     .word 0x004b5313  # srli x6, x22, 4
@@ -403,64 +331,64 @@ aes256_decrypt_2:
     .word 0x01b44533  # xor x10, x8, x27
     .word 0x016545b3  # xor x11, x10, x22
     .word 0x01a5c2b3  # xor x5, x11, x26
-    .word 0x20512223  # sw x5, 516(x2)
+    .word 0x20512023  # sw x5, 512(x2)
     .word 0x00c6c833  # xor x16, x13, x12
     .word 0x0095c2b3  # xor x5, x11, x9
-    .word 0x20512423  # sw x5, 520(x2)
+    .word 0x20512223  # sw x5, 516(x2)
     .word 0x0175c8b3  # xor x17, x11, x23
     .word 0x00f8c2b3  # xor x5, x17, x15
-    .word 0x20512623  # sw x5, 524(x2)
+    .word 0x20512423  # sw x5, 520(x2)
     .word 0x010ccd33  # xor x26, x25, x16
     .word 0x018d4cb3  # xor x25, x26, x24
     .word 0x008d4d33  # xor x26, x26, x8
     .word 0x016cc2b3  # xor x5, x25, x22
-    .word 0x20512823  # sw x5, 528(x2)
+    .word 0x20512623  # sw x5, 524(x2)
     .word 0x00accbb3  # xor x23, x25, x10
     .word 0x00ed4c33  # xor x24, x26, x14
     .word 0x018b42b3  # xor x5, x22, x24
-    .word 0x20512a23  # sw x5, 532(x2)
+    .word 0x20512823  # sw x5, 528(x2)
     .word 0x018bc2b3  # xor x5, x23, x24
-    .word 0x20512c23  # sw x5, 536(x2)
+    .word 0x20512a23  # sw x5, 532(x2)
     .word 0x00fbcdb3  # xor x27, x23, x15
     .word 0x01854433  # xor x8, x10, x24
     .word 0x0086c9b3  # xor x19, x13, x8
     .word 0x0084ca33  # xor x20, x9, x8
     .word 0x01987533  # and x10, x16, x25
-    .word 0x20c12283  # lw x5, 524(x2)
-    .word 0x21012303  # lw x6, 528(x2)
+    .word 0x20812283  # lw x5, 520(x2)
+    .word 0x20c12303  # lw x6, 524(x2)
     .word 0x0062f4b3  # and x9, x5, x6
     .word 0x00a4c933  # xor x18, x9, x10
-    .word 0x20412283  # lw x5, 516(x2)
+    .word 0x20012283  # lw x5, 512(x2)
     .word 0x0162f4b3  # and x9, x5, x22
     .word 0x00a4cab3  # xor x21, x9, x10
     .word 0x0086f533  # and x10, x13, x8
     .word 0x00b8f4b3  # and x9, x17, x11
     .word 0x00a4c2b3  # xor x5, x9, x10
-    .word 0x22512223  # sw x5, 548(x2)
-    .word 0x20812283  # lw x5, 520(x2)
-    .word 0x21412303  # lw x6, 532(x2)
+    .word 0x22512023  # sw x5, 544(x2)
+    .word 0x20412283  # lw x5, 516(x2)
+    .word 0x21012303  # lw x6, 528(x2)
     .word 0x0062f4b3  # and x9, x5, x6
     .word 0x00a4c2b3  # xor x5, x9, x10
-    .word 0x20512e23  # sw x5, 540(x2)
+    .word 0x20512c23  # sw x5, 536(x2)
     .word 0x01877533  # and x10, x14, x24
-    .word 0x21812303  # lw x6, 536(x2)
+    .word 0x21412303  # lw x6, 532(x2)
     .word 0x006674b3  # and x9, x12, x6
     .word 0x00a4c4b3  # xor x9, x9, x10
     .word 0x0177f2b3  # and x5, x15, x23
-    .word 0x22512023  # sw x5, 544(x2)
-    .word 0x22012283  # lw x5, 544(x2)
+    .word 0x20512e23  # sw x5, 540(x2)
+    .word 0x21c12283  # lw x5, 540(x2)
     .word 0x00a2c533  # xor x10, x5, x10
     .word 0x00994933  # xor x18, x18, x9
     .word 0x00aacab3  # xor x21, x21, x10
-    .word 0x22412283  # lw x5, 548(x2)
+    .word 0x22012283  # lw x5, 544(x2)
     .word 0x0092c4b3  # xor x9, x5, x9
-    .word 0x21c12283  # lw x5, 540(x2)
+    .word 0x21812283  # lw x5, 536(x2)
     .word 0x00a2c2b3  # xor x5, x5, x10
-    .word 0x22512223  # sw x5, 548(x2)
+    .word 0x22512023  # sw x5, 544(x2)
     .word 0x01a94d33  # xor x26, x18, x26
     .word 0x01bac533  # xor x10, x21, x27
     .word 0x0134cdb3  # xor x27, x9, x19
-    .word 0x22412283  # lw x5, 548(x2)
+    .word 0x22012283  # lw x5, 544(x2)
     .word 0x0142c4b3  # xor x9, x5, x20
     .word 0x00ad4a33  # xor x20, x26, x10
     .word 0x01bd7933  # and x18, x26, x27
@@ -483,50 +411,50 @@ aes256_decrypt_2:
     .word 0x01bd4933  # xor x18, x26, x27
     .word 0x00954ab3  # xor x21, x10, x9
     .word 0x013a42b3  # xor x5, x20, x19
-    .word 0x22512223  # sw x5, 548(x2)
+    .word 0x22512023  # sw x5, 544(x2)
     .word 0x019af2b3  # and x5, x21, x25
-    .word 0x20512e23  # sw x5, 540(x2)
-    .word 0x21012303  # lw x6, 528(x2)
+    .word 0x20512c23  # sw x5, 536(x2)
+    .word 0x20c12303  # lw x6, 524(x2)
     .word 0x0064f2b3  # and x5, x9, x6
-    .word 0x20512823  # sw x5, 528(x2)
+    .word 0x20512623  # sw x5, 524(x2)
     .word 0x01657b33  # and x22, x10, x22
     .word 0x00897cb3  # and x25, x18, x8
     .word 0x00bdf433  # and x8, x27, x11
-    .word 0x21412303  # lw x6, 532(x2)
+    .word 0x21012303  # lw x6, 528(x2)
     .word 0x006d75b3  # and x11, x26, x6
     .word 0x018a72b3  # and x5, x20, x24
-    .word 0x20512a23  # sw x5, 532(x2)
-    .word 0x22412283  # lw x5, 548(x2)
-    .word 0x21812303  # lw x6, 536(x2)
+    .word 0x20512823  # sw x5, 528(x2)
+    .word 0x22012283  # lw x5, 544(x2)
+    .word 0x21412303  # lw x6, 532(x2)
     .word 0x0062fc33  # and x24, x5, x6
     .word 0x0179f2b3  # and x5, x19, x23
-    .word 0x20512c23  # sw x5, 536(x2)
+    .word 0x20512a23  # sw x5, 532(x2)
     .word 0x010af833  # and x16, x21, x16
-    .word 0x20c12303  # lw x6, 524(x2)
+    .word 0x20812303  # lw x6, 520(x2)
     .word 0x0064f4b3  # and x9, x9, x6
-    .word 0x20412303  # lw x6, 516(x2)
+    .word 0x20012303  # lw x6, 512(x2)
     .word 0x006572b3  # and x5, x10, x6
-    .word 0x20512223  # sw x5, 516(x2)
+    .word 0x20512023  # sw x5, 512(x2)
     .word 0x00d97533  # and x10, x18, x13
     .word 0x011dfdb3  # and x27, x27, x17
-    .word 0x20812303  # lw x6, 520(x2)
+    .word 0x20412303  # lw x6, 516(x2)
     .word 0x006d76b3  # and x13, x26, x6
     .word 0x00ea7bb3  # and x23, x20, x14
-    .word 0x22412283  # lw x5, 548(x2)
+    .word 0x22012283  # lw x5, 544(x2)
     .word 0x00c2fd33  # and x26, x5, x12
     .word 0x00f9f7b3  # and x15, x19, x15
     .word 0x01abcbb3  # xor x23, x23, x26
-    .word 0x20412303  # lw x6, 516(x2)
+    .word 0x20012303  # lw x6, 512(x2)
     .word 0x0064c633  # xor x12, x9, x6
     .word 0x01b5cdb3  # xor x27, x11, x27
     .word 0x00984733  # xor x14, x16, x9
     .word 0x00ab4833  # xor x16, x22, x10
     .word 0x00bb45b3  # xor x11, x22, x11
-    .word 0x21812303  # lw x6, 536(x2)
+    .word 0x21412303  # lw x6, 532(x2)
     .word 0x006c48b3  # xor x17, x24, x6
-    .word 0x21c12283  # lw x5, 540(x2)
+    .word 0x21812283  # lw x5, 536(x2)
     .word 0x0192c4b3  # xor x9, x5, x25
-    .word 0x21412283  # lw x5, 532(x2)
+    .word 0x21012283  # lw x5, 528(x2)
     .word 0x0182cc33  # xor x24, x5, x24
     .word 0x00fd47b3  # xor x15, x26, x15
     .word 0x01b549b3  # xor x19, x10, x27
@@ -539,7 +467,7 @@ aes256_decrypt_2:
     .word 0x01674b33  # xor x22, x14, x22
     .word 0x01844d33  # xor x26, x8, x24
     .word 0x00acccb3  # xor x25, x25, x10
-    .word 0x21012283  # lw x5, 528(x2)
+    .word 0x20c12283  # lw x5, 524(x2)
     .word 0x0162cbb3  # xor x23, x5, x22
     .word 0x016c4b33  # xor x22, x24, x22
     .word 0x00a9c2b3  # xor x5, x19, x10
@@ -575,51 +503,51 @@ aes256_decrypt_2:
     .word 0x00f5c2b3  # xor x5, x11, x15
     .word 0x0162cb33  # xor x22, x5, x22
     .word 0x06800293  # addi x5, x0, 104
-    .word 0x20012303  # lw x6, 512(x2)
+    .word 0x22812303  # lw x6, 552(x2)
     .word 0x00331313  # slli x6, x6, 3
     .word 0x406282b3  # sub x5, x5, x6
-    .word 0x22512423  # sw x5, 552(x2)
-    .word 0x22812303  # lw x6, 552(x2)
+    .word 0x22512223  # sw x5, 548(x2)
+    .word 0x22412303  # lw x6, 548(x2)
     .word 0x00231313  # slli x6, x6, 2
     .word 0x00230333  # add x6, x6, x2
     .word 0x00032303  # lw x6, 0(x6)
     .word 0x006b4b33  # xor x22, x22, x6
-    .word 0x22812303  # lw x6, 552(x2)
+    .word 0x22412303  # lw x6, 548(x2)
     .word 0x00231313  # slli x6, x6, 2
     .word 0x00230333  # add x6, x6, x2
     .word 0x00432303  # lw x6, 4(x6)
     .word 0x006bcbb3  # xor x23, x23, x6
-    .word 0x22812303  # lw x6, 552(x2)
+    .word 0x22412303  # lw x6, 548(x2)
     .word 0x00231313  # slli x6, x6, 2
     .word 0x00230333  # add x6, x6, x2
     .word 0x00832303  # lw x6, 8(x6)
     .word 0x006c4c33  # xor x24, x24, x6
-    .word 0x22812303  # lw x6, 552(x2)
+    .word 0x22412303  # lw x6, 548(x2)
     .word 0x00231313  # slli x6, x6, 2
     .word 0x00230333  # add x6, x6, x2
     .word 0x00c32303  # lw x6, 12(x6)
     .word 0x006cccb3  # xor x25, x25, x6
-    .word 0x22812303  # lw x6, 552(x2)
+    .word 0x22412303  # lw x6, 548(x2)
     .word 0x00231313  # slli x6, x6, 2
     .word 0x00230333  # add x6, x6, x2
     .word 0x01032303  # lw x6, 16(x6)
     .word 0x006d4d33  # xor x26, x26, x6
-    .word 0x22812303  # lw x6, 552(x2)
+    .word 0x22412303  # lw x6, 548(x2)
     .word 0x00231313  # slli x6, x6, 2
     .word 0x00230333  # add x6, x6, x2
     .word 0x01432303  # lw x6, 20(x6)
     .word 0x006dcdb3  # xor x27, x27, x6
-    .word 0x22812303  # lw x6, 552(x2)
+    .word 0x22412303  # lw x6, 548(x2)
     .word 0x00231313  # slli x6, x6, 2
     .word 0x00230333  # add x6, x6, x2
     .word 0x01832303  # lw x6, 24(x6)
     .word 0x00644433  # xor x8, x8, x6
-    .word 0x22812303  # lw x6, 552(x2)
+    .word 0x22412303  # lw x6, 548(x2)
     .word 0x00231313  # slli x6, x6, 2
     .word 0x00230333  # add x6, x6, x2
     .word 0x01c32303  # lw x6, 28(x6)
     .word 0x0064c4b3  # xor x9, x9, x6
-    .word 0x20012283  # lw x5, 512(x2)
+    .word 0x22812283  # lw x5, 552(x2)
     .word 0x00d00313  # addi x6, x0, 13
     .word 0x2062f263  # bgeu x5, x6, 516
     .word 0x010b1f13  # slli x30, x22, 16

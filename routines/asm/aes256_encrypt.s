@@ -1,4 +1,4 @@
-# aes256_encrypt: made by factc 1.0.0 function; 1321 words, 304 bytes of stack, profile 1
+# aes256_encrypt: made by factc 1.0.0 function; 1320 words, 304 bytes of stack, profile 1
     .option push
     .option norvc
     .option norelax
@@ -47,12 +47,12 @@ aes256_encrypt:
     .word 0x00050293  # addi x5, x10, 0
     .word 0x00010313  # addi x6, x2, 0
     .word 0x02028393  # addi x7, x5, 32
-    .word 0x40401f6f  # jal x30, 5124
+    .word 0x40001f6f  # jal x30, 5120
     # parameter 1: an array
     .word 0x00058293  # addi x5, x11, 0
     .word 0x02010313  # addi x6, x2, 32
     .word 0x01028393  # addi x7, x5, 16
-    .word 0x3f401f6f  # jal x30, 5108
+    .word 0x3f001f6f  # jal x30, 5104
     # the body
     .word 0x00000593  # addi x11, x0, 0
     .word 0x555552b7  # lui x5, 0x55555
@@ -471,7 +471,8 @@ aes256_encrypt:
     .word 0x01091293  # slli x5, x18, 16
     .word 0x08512023  # sw x5, 128(x2)
     .word 0x012a49b3  # xor x19, x20, x18
-    .word 0x00100593  # addi x11, x0, 1
+    .word 0x00000593  # addi x11, x0, 0
+    .word 0x00158593  # addi x11, x11, 1
     .word 0x00098a13  # addi x20, x19, 0
     .word 0x00040793  # addi x15, x8, 0
     .word 0x000d8913  # addi x18, x27, 0
@@ -1171,10 +1172,8 @@ aes256_encrypt:
     .word 0x0015f293  # andi x5, x11, 1
     .word 0x00029463  # bne x5, x0, 8
     .word 0x00151513  # slli x10, x10, 1
-    .word 0x00158593  # addi x11, x11, 1
-    .word 0x00f5b293  # sltiu x5, x11, 15
+    .word 0xff258293  # addi x5, x11, -14
     .word 0xd0029663  # bne x5, x0, -2804
-    .word 0xfff58593  # addi x11, x11, -1
     .word 0x001b5293  # srli x5, x22, 1
     .word 0x0172c2b3  # xor x5, x5, x23
     .word 0x0c412303  # lw x6, 196(x2)

@@ -1,4 +1,4 @@
-# aes256_expand: made by factc 1.0.0 function; 833 words, 656 bytes of stack, profile 1
+# aes256_expand: made by factc 1.0.0 function; 760 words, 656 bytes of stack, profile 1
     .option push
     .option norvc
     .option norelax
@@ -45,7 +45,7 @@ aes256_expand:
     .word 0x00050293  # addi x5, x10, 0
     .word 0x00010313  # addi x6, x2, 0
     .word 0x02028393  # addi x7, x5, 32
-    .word 0x46900f6f  # jal x30, 3176
+    .word 0x34500f6f  # jal x30, 2884
     # the body
     .word 0x00000513  # addi x10, x0, 0
     .word 0x555552b7  # lui x5, 0x55555
@@ -63,46 +63,10 @@ aes256_expand:
     .word 0xcfcd8d93  # addi x27, x27, -772
     .word 0xf0f0f4b7  # lui x9, 0xf0f0f
     .word 0x0f048493  # addi x9, x9, 240
-    .word 0x00014283  # lbu x5, 0(x2)
-    .word 0x00114303  # lbu x6, 1(x2)
-    .word 0x00831313  # slli x6, x6, 8
-    .word 0x0062ecb3  # or x25, x5, x6
-    .word 0x00214303  # lbu x6, 2(x2)
-    .word 0x01031313  # slli x6, x6, 16
-    .word 0x006ce2b3  # or x5, x25, x6
-    .word 0x00314303  # lbu x6, 3(x2)
-    .word 0x01831313  # slli x6, x6, 24
-    .word 0x0062e933  # or x18, x5, x6
-    .word 0x00414283  # lbu x5, 4(x2)
-    .word 0x00514303  # lbu x6, 5(x2)
-    .word 0x00831313  # slli x6, x6, 8
-    .word 0x0062ecb3  # or x25, x5, x6
-    .word 0x00614303  # lbu x6, 6(x2)
-    .word 0x01031313  # slli x6, x6, 16
-    .word 0x006ce2b3  # or x5, x25, x6
-    .word 0x00714303  # lbu x6, 7(x2)
-    .word 0x01831313  # slli x6, x6, 24
-    .word 0x0062ea33  # or x20, x5, x6
-    .word 0x00814283  # lbu x5, 8(x2)
-    .word 0x00914303  # lbu x6, 9(x2)
-    .word 0x00831313  # slli x6, x6, 8
-    .word 0x0062ecb3  # or x25, x5, x6
-    .word 0x00a14303  # lbu x6, 10(x2)
-    .word 0x01031313  # slli x6, x6, 16
-    .word 0x006ce2b3  # or x5, x25, x6
-    .word 0x00b14303  # lbu x6, 11(x2)
-    .word 0x01831313  # slli x6, x6, 24
-    .word 0x0062eb33  # or x22, x5, x6
-    .word 0x00c14283  # lbu x5, 12(x2)
-    .word 0x00d14303  # lbu x6, 13(x2)
-    .word 0x00831313  # slli x6, x6, 8
-    .word 0x0062ecb3  # or x25, x5, x6
-    .word 0x00e14303  # lbu x6, 14(x2)
-    .word 0x01031313  # slli x6, x6, 16
-    .word 0x006ce2b3  # or x5, x25, x6
-    .word 0x00f14303  # lbu x6, 15(x2)
-    .word 0x01831313  # slli x6, x6, 24
-    .word 0x0062ec33  # or x24, x5, x6
+    .word 0x00012903  # lw x18, 0(x2)
+    .word 0x00412a03  # lw x20, 4(x2)
+    .word 0x00812b03  # lw x22, 8(x2)
+    .word 0x00c12c03  # lw x24, 12(x2)
     .word 0x00195293  # srli x5, x18, 1
     .word 0x0122c2b3  # xor x5, x5, x18
     .word 0x23812303  # lw x6, 568(x2)
@@ -195,46 +159,10 @@ aes256_expand:
     .word 0x03712a23  # sw x23, 52(x2)
     .word 0x03812c23  # sw x24, 56(x2)
     .word 0x03912e23  # sw x25, 60(x2)
-    .word 0x01014283  # lbu x5, 16(x2)
-    .word 0x01114303  # lbu x6, 17(x2)
-    .word 0x00831313  # slli x6, x6, 8
-    .word 0x0062ecb3  # or x25, x5, x6
-    .word 0x01214303  # lbu x6, 18(x2)
-    .word 0x01031313  # slli x6, x6, 16
-    .word 0x006ce2b3  # or x5, x25, x6
-    .word 0x01314303  # lbu x6, 19(x2)
-    .word 0x01831313  # slli x6, x6, 24
-    .word 0x0062e933  # or x18, x5, x6
-    .word 0x01414283  # lbu x5, 20(x2)
-    .word 0x01514303  # lbu x6, 21(x2)
-    .word 0x00831313  # slli x6, x6, 8
-    .word 0x0062ecb3  # or x25, x5, x6
-    .word 0x01614303  # lbu x6, 22(x2)
-    .word 0x01031313  # slli x6, x6, 16
-    .word 0x006ce2b3  # or x5, x25, x6
-    .word 0x01714303  # lbu x6, 23(x2)
-    .word 0x01831313  # slli x6, x6, 24
-    .word 0x0062ea33  # or x20, x5, x6
-    .word 0x01814283  # lbu x5, 24(x2)
-    .word 0x01914303  # lbu x6, 25(x2)
-    .word 0x00831313  # slli x6, x6, 8
-    .word 0x0062ecb3  # or x25, x5, x6
-    .word 0x01a14303  # lbu x6, 26(x2)
-    .word 0x01031313  # slli x6, x6, 16
-    .word 0x006ce2b3  # or x5, x25, x6
-    .word 0x01b14303  # lbu x6, 27(x2)
-    .word 0x01831313  # slli x6, x6, 24
-    .word 0x0062eb33  # or x22, x5, x6
-    .word 0x01c14283  # lbu x5, 28(x2)
-    .word 0x01d14303  # lbu x6, 29(x2)
-    .word 0x00831313  # slli x6, x6, 8
-    .word 0x0062ecb3  # or x25, x5, x6
-    .word 0x01e14303  # lbu x6, 30(x2)
-    .word 0x01031313  # slli x6, x6, 16
-    .word 0x006ce2b3  # or x5, x25, x6
-    .word 0x01f14303  # lbu x6, 31(x2)
-    .word 0x01831313  # slli x6, x6, 24
-    .word 0x0062ec33  # or x24, x5, x6
+    .word 0x01012903  # lw x18, 16(x2)
+    .word 0x01412a03  # lw x20, 20(x2)
+    .word 0x01812b03  # lw x22, 24(x2)
+    .word 0x01c12c03  # lw x24, 28(x2)
     .word 0x00195293  # srli x5, x18, 1
     .word 0x0122c2b3  # xor x5, x5, x18
     .word 0x23812303  # lw x6, 568(x2)
@@ -327,7 +255,8 @@ aes256_expand:
     .word 0x05712a23  # sw x23, 84(x2)
     .word 0x05812c23  # sw x24, 88(x2)
     .word 0x05912e23  # sw x25, 92(x2)
-    .word 0x00000513  # addi x10, x0, 0
+    .word 0xfff00513  # addi x10, x0, -1
+    .word 0x00150513  # addi x10, x10, 1
     .word 0x00351293  # slli x5, x10, 3
     .word 0x00229293  # slli x5, x5, 2
     .word 0x002282b3  # add x5, x5, x2
@@ -797,10 +726,8 @@ aes256_expand:
     .word 0x00229293  # slli x5, x5, 2
     .word 0x002282b3  # add x5, x5, x2
     .word 0x0662a023  # sw x6, 96(x5)
-    .word 0x00150513  # addi x10, x10, 1
-    .word 0x00d53293  # sltiu x5, x10, 13
+    .word 0xff450293  # addi x5, x10, -12
     .word 0x8a0292e3  # bne x5, x0, -1884
-    .word 0xfff50513  # addi x10, x10, -1
     # the result
     .word 0x00000513  # addi x10, x0, 0
     # parameter 1: the array, back

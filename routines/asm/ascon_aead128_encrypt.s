@@ -1,4 +1,4 @@
-# ascon_aead128_encrypt: made by factc 1.0.0 function; 937 words, 336 bytes of stack, profile 1
+# ascon_aead128_encrypt: made by factc 1.0.0 function; 864 words, 336 bytes of stack, profile 1
     .option push
     .option norvc
     .option norelax
@@ -52,24 +52,24 @@ ascon_aead128_encrypt:
     .word 0x00050293  # addi x5, x10, 0
     .word 0x00010313  # addi x6, x2, 0
     .word 0x01028393  # addi x7, x5, 16
-    .word 0x5f100f6f  # jal x30, 3568
+    .word 0x4cd00f6f  # jal x30, 3276
     # parameter 1: an array
     .word 0x00058293  # addi x5, x11, 0
     .word 0x01010313  # addi x6, x2, 16
     .word 0x01028393  # addi x7, x5, 16
-    .word 0x5e100f6f  # jal x30, 3552
+    .word 0x4bd00f6f  # jal x30, 3260
     # parameter 2: an array
     .word 0x00060293  # addi x5, x12, 0
     .word 0x02010313  # addi x6, x2, 32
     .word 0x04028393  # addi x7, x5, 64
-    .word 0x5d100f6f  # jal x30, 3536
+    .word 0x4ad00f6f  # jal x30, 3244
     # parameter 3: a word
     .word 0x06d12023  # sw x13, 96(x2)
     # parameter 4: an array
     .word 0x00070293  # addi x5, x14, 0
     .word 0x06410313  # addi x6, x2, 100
     .word 0x04028393  # addi x7, x5, 64
-    .word 0x5bd00f6f  # jal x30, 3516
+    .word 0x49900f6f  # jal x30, 3224
     # parameter 5: a word
     .word 0x0af12223  # sw x15, 164(x2)
     # the body
@@ -103,95 +103,23 @@ ascon_aead128_encrypt:
     .word 0x00090913  # addi x18, x18, 0
     .word 0x808c0c37  # lui x24, 0x808c0
     .word 0x001c0c13  # addi x24, x24, 1
-    .word 0x00414283  # lbu x5, 4(x2)
-    .word 0x00514303  # lbu x6, 5(x2)
-    .word 0x00831313  # slli x6, x6, 8
-    .word 0x0062ecb3  # or x25, x5, x6
-    .word 0x00614303  # lbu x6, 6(x2)
-    .word 0x01031313  # slli x6, x6, 16
-    .word 0x006ce2b3  # or x5, x25, x6
-    .word 0x00714303  # lbu x6, 7(x2)
-    .word 0x01831313  # slli x6, x6, 24
-    .word 0x0062e2b3  # or x5, x5, x6
+    .word 0x00412283  # lw x5, 4(x2)
     .word 0x0c512623  # sw x5, 204(x2)
     .word 0x0cc12983  # lw x19, 204(x2)
-    .word 0x01414283  # lbu x5, 20(x2)
-    .word 0x01514303  # lbu x6, 21(x2)
-    .word 0x00831313  # slli x6, x6, 8
-    .word 0x0062ecb3  # or x25, x5, x6
-    .word 0x01614303  # lbu x6, 22(x2)
-    .word 0x01031313  # slli x6, x6, 16
-    .word 0x006ce2b3  # or x5, x25, x6
-    .word 0x01714303  # lbu x6, 23(x2)
-    .word 0x01831313  # slli x6, x6, 24
-    .word 0x0062e8b3  # or x17, x5, x6
-    .word 0x00014283  # lbu x5, 0(x2)
-    .word 0x00114303  # lbu x6, 1(x2)
-    .word 0x00831313  # slli x6, x6, 8
-    .word 0x0062ecb3  # or x25, x5, x6
-    .word 0x00214303  # lbu x6, 2(x2)
-    .word 0x01031313  # slli x6, x6, 16
-    .word 0x006ce2b3  # or x5, x25, x6
-    .word 0x00314303  # lbu x6, 3(x2)
-    .word 0x01831313  # slli x6, x6, 24
-    .word 0x0062e2b3  # or x5, x5, x6
+    .word 0x01412883  # lw x17, 20(x2)
+    .word 0x00012283  # lw x5, 0(x2)
     .word 0x0c512823  # sw x5, 208(x2)
     .word 0x0d012a03  # lw x20, 208(x2)
-    .word 0x01014283  # lbu x5, 16(x2)
-    .word 0x01114303  # lbu x6, 17(x2)
-    .word 0x00831313  # slli x6, x6, 8
-    .word 0x0062ecb3  # or x25, x5, x6
-    .word 0x01214303  # lbu x6, 18(x2)
-    .word 0x01031313  # slli x6, x6, 16
-    .word 0x006ce2b3  # or x5, x25, x6
-    .word 0x01314303  # lbu x6, 19(x2)
-    .word 0x01831313  # slli x6, x6, 24
-    .word 0x0062ebb3  # or x23, x5, x6
-    .word 0x00c14283  # lbu x5, 12(x2)
-    .word 0x00d14303  # lbu x6, 13(x2)
-    .word 0x00831313  # slli x6, x6, 8
-    .word 0x0062ecb3  # or x25, x5, x6
-    .word 0x00e14303  # lbu x6, 14(x2)
-    .word 0x01031313  # slli x6, x6, 16
-    .word 0x006ce2b3  # or x5, x25, x6
-    .word 0x00f14303  # lbu x6, 15(x2)
-    .word 0x01831313  # slli x6, x6, 24
-    .word 0x0062e2b3  # or x5, x5, x6
+    .word 0x01012b83  # lw x23, 16(x2)
+    .word 0x00c12283  # lw x5, 12(x2)
     .word 0x0c512a23  # sw x5, 212(x2)
     .word 0x0d412d83  # lw x27, 212(x2)
-    .word 0x01c14283  # lbu x5, 28(x2)
-    .word 0x01d14303  # lbu x6, 29(x2)
-    .word 0x00831313  # slli x6, x6, 8
-    .word 0x0062ecb3  # or x25, x5, x6
-    .word 0x01e14303  # lbu x6, 30(x2)
-    .word 0x01031313  # slli x6, x6, 16
-    .word 0x006ce2b3  # or x5, x25, x6
-    .word 0x01f14303  # lbu x6, 31(x2)
-    .word 0x01831313  # slli x6, x6, 24
-    .word 0x0062eab3  # or x21, x5, x6
-    .word 0x00814283  # lbu x5, 8(x2)
-    .word 0x00914303  # lbu x6, 9(x2)
-    .word 0x00831313  # slli x6, x6, 8
-    .word 0x0062ecb3  # or x25, x5, x6
-    .word 0x00a14303  # lbu x6, 10(x2)
-    .word 0x01031313  # slli x6, x6, 16
-    .word 0x006ce2b3  # or x5, x25, x6
-    .word 0x00b14303  # lbu x6, 11(x2)
-    .word 0x01831313  # slli x6, x6, 24
-    .word 0x0062e2b3  # or x5, x5, x6
+    .word 0x01c12a83  # lw x21, 28(x2)
+    .word 0x00812283  # lw x5, 8(x2)
     .word 0x0c512c23  # sw x5, 216(x2)
     .word 0x0d812283  # lw x5, 216(x2)
     .word 0x0c512223  # sw x5, 196(x2)
-    .word 0x01814283  # lbu x5, 24(x2)
-    .word 0x01914303  # lbu x6, 25(x2)
-    .word 0x00831313  # slli x6, x6, 8
-    .word 0x0062ecb3  # or x25, x5, x6
-    .word 0x01a14303  # lbu x6, 26(x2)
-    .word 0x01031313  # slli x6, x6, 16
-    .word 0x006ce2b3  # or x5, x25, x6
-    .word 0x01b14303  # lbu x6, 27(x2)
-    .word 0x01831313  # slli x6, x6, 24
-    .word 0x0062ed33  # or x26, x5, x6
+    .word 0x01812d03  # lw x26, 24(x2)
     .word 0x0015b293  # sltiu x5, x11, 1
     .word 0x00000313  # addi x6, x0, 0
     .word 0x0045d393  # srli x7, x11, 4
@@ -205,8 +133,9 @@ ascon_aead128_encrypt:
     .word 0x00455313  # srli x6, x10, 4
     .word 0x006282b3  # add x5, x5, x6
     .word 0x00128293  # addi x5, x5, 1
-    .word 0x0a512e23  # sw x5, 188(x2)
-    .word 0x00000613  # addi x12, x0, 0
+    .word 0x0c512023  # sw x5, 192(x2)
+    .word 0xfff00613  # addi x12, x0, -1
+    .word 0x00160613  # addi x12, x12, 1
     .word 0x0b812303  # lw x6, 184(x2)
     .word 0x00c332b3  # sltu x5, x6, x12
     .word 0xfff60313  # addi x6, x12, -1
@@ -218,19 +147,19 @@ ascon_aead128_encrypt:
     .word 0x00537333  # and x6, x6, x5
     .word 0x0063c2b3  # xor x5, x7, x6
     .word 0x0072f293  # andi x5, x5, 7
-    .word 0x0c512023  # sw x5, 192(x2)
+    .word 0x0a512e23  # sw x5, 188(x2)
     .word 0x0b812303  # lw x6, 184(x2)
     .word 0x00130313  # addi x6, x6, 1
     .word 0x00661663  # bne x12, x6, 12
     .word 0x0dc12303  # lw x6, 220(x2)
     .word 0x006acab3  # xor x21, x21, x6
     .word 0x00c032b3  # sltu x5, x0, x12
-    .word 0x0bc12383  # lw x7, 188(x2)
+    .word 0x0c012383  # lw x7, 192(x2)
     .word 0x00c3b333  # sltu x6, x7, x12
     .word 0x00133313  # sltiu x6, x6, 1
     .word 0x0062f2b3  # and x5, x5, x6
     .word 0x6e028863  # beq x5, x0, 1776
-    .word 0x0c012283  # lw x5, 192(x2)
+    .word 0x0bc12283  # lw x5, 188(x2)
     .word 0x00429693  # slli x13, x5, 4
     .word 0x002684b3  # add x9, x13, x2
     .word 0x0b812303  # lw x6, 184(x2)
@@ -254,7 +183,7 @@ ascon_aead128_encrypt:
     .word 0x07848223  # sb x24, 100(x9)
     .word 0x00a69463  # bne x13, x10, 8
     .word 0x001c4c13  # xori x24, x24, 1
-    .word 0x0c012283  # lw x5, 192(x2)
+    .word 0x0bc12283  # lw x5, 188(x2)
     .word 0x00429293  # slli x5, x5, 4
     .word 0x00128693  # addi x13, x5, 1
     .word 0x002684b3  # add x9, x13, x2
@@ -282,7 +211,7 @@ ascon_aead128_encrypt:
     .word 0x06548223  # sb x5, 100(x9)
     .word 0x00a69463  # bne x13, x10, 8
     .word 0x100c4c13  # xori x24, x24, 256
-    .word 0x0c012283  # lw x5, 192(x2)
+    .word 0x0bc12283  # lw x5, 188(x2)
     .word 0x00429293  # slli x5, x5, 4
     .word 0x00228693  # addi x13, x5, 2
     .word 0x002684b3  # add x9, x13, x2
@@ -311,7 +240,7 @@ ascon_aead128_encrypt:
     .word 0x00a69663  # bne x13, x10, 12
     .word 0x0e012303  # lw x6, 224(x2)
     .word 0x006c4c33  # xor x24, x24, x6
-    .word 0x0c012283  # lw x5, 192(x2)
+    .word 0x0bc12283  # lw x5, 188(x2)
     .word 0x00429293  # slli x5, x5, 4
     .word 0x00328693  # addi x13, x5, 3
     .word 0x002684b3  # add x9, x13, x2
@@ -340,7 +269,7 @@ ascon_aead128_encrypt:
     .word 0x00a69663  # bne x13, x10, 12
     .word 0x0e412303  # lw x6, 228(x2)
     .word 0x006c4c33  # xor x24, x24, x6
-    .word 0x0c012283  # lw x5, 192(x2)
+    .word 0x0bc12283  # lw x5, 188(x2)
     .word 0x00429293  # slli x5, x5, 4
     .word 0x00428693  # addi x13, x5, 4
     .word 0x002684b3  # add x9, x13, x2
@@ -365,7 +294,7 @@ ascon_aead128_encrypt:
     .word 0x07248223  # sb x18, 100(x9)
     .word 0x00a69463  # bne x13, x10, 8
     .word 0x00194913  # xori x18, x18, 1
-    .word 0x0c012283  # lw x5, 192(x2)
+    .word 0x0bc12283  # lw x5, 188(x2)
     .word 0x00429293  # slli x5, x5, 4
     .word 0x00528693  # addi x13, x5, 5
     .word 0x002684b3  # add x9, x13, x2
@@ -393,7 +322,7 @@ ascon_aead128_encrypt:
     .word 0x06548223  # sb x5, 100(x9)
     .word 0x00a69463  # bne x13, x10, 8
     .word 0x10094913  # xori x18, x18, 256
-    .word 0x0c012283  # lw x5, 192(x2)
+    .word 0x0bc12283  # lw x5, 188(x2)
     .word 0x00429293  # slli x5, x5, 4
     .word 0x00628693  # addi x13, x5, 6
     .word 0x002684b3  # add x9, x13, x2
@@ -422,7 +351,7 @@ ascon_aead128_encrypt:
     .word 0x00a69663  # bne x13, x10, 12
     .word 0x0e012303  # lw x6, 224(x2)
     .word 0x00694933  # xor x18, x18, x6
-    .word 0x0c012283  # lw x5, 192(x2)
+    .word 0x0bc12283  # lw x5, 188(x2)
     .word 0x00429293  # slli x5, x5, 4
     .word 0x00728693  # addi x13, x5, 7
     .word 0x002684b3  # add x9, x13, x2
@@ -451,7 +380,7 @@ ascon_aead128_encrypt:
     .word 0x00a69663  # bne x13, x10, 12
     .word 0x0e412303  # lw x6, 228(x2)
     .word 0x00694933  # xor x18, x18, x6
-    .word 0x0c012283  # lw x5, 192(x2)
+    .word 0x0bc12283  # lw x5, 188(x2)
     .word 0x00429293  # slli x5, x5, 4
     .word 0x00828693  # addi x13, x5, 8
     .word 0x002684b3  # add x9, x13, x2
@@ -476,7 +405,7 @@ ascon_aead128_encrypt:
     .word 0x07448223  # sb x20, 100(x9)
     .word 0x00a69463  # bne x13, x10, 8
     .word 0x001a4a13  # xori x20, x20, 1
-    .word 0x0c012283  # lw x5, 192(x2)
+    .word 0x0bc12283  # lw x5, 188(x2)
     .word 0x00429293  # slli x5, x5, 4
     .word 0x00928693  # addi x13, x5, 9
     .word 0x002684b3  # add x9, x13, x2
@@ -504,7 +433,7 @@ ascon_aead128_encrypt:
     .word 0x06548223  # sb x5, 100(x9)
     .word 0x00a69463  # bne x13, x10, 8
     .word 0x100a4a13  # xori x20, x20, 256
-    .word 0x0c012283  # lw x5, 192(x2)
+    .word 0x0bc12283  # lw x5, 188(x2)
     .word 0x00429293  # slli x5, x5, 4
     .word 0x00a28693  # addi x13, x5, 10
     .word 0x002684b3  # add x9, x13, x2
@@ -533,7 +462,7 @@ ascon_aead128_encrypt:
     .word 0x00a69663  # bne x13, x10, 12
     .word 0x0e012303  # lw x6, 224(x2)
     .word 0x006a4a33  # xor x20, x20, x6
-    .word 0x0c012283  # lw x5, 192(x2)
+    .word 0x0bc12283  # lw x5, 188(x2)
     .word 0x00429293  # slli x5, x5, 4
     .word 0x00b28693  # addi x13, x5, 11
     .word 0x002684b3  # add x9, x13, x2
@@ -562,7 +491,7 @@ ascon_aead128_encrypt:
     .word 0x00a69663  # bne x13, x10, 12
     .word 0x0e412303  # lw x6, 228(x2)
     .word 0x006a4a33  # xor x20, x20, x6
-    .word 0x0c012283  # lw x5, 192(x2)
+    .word 0x0bc12283  # lw x5, 188(x2)
     .word 0x00429293  # slli x5, x5, 4
     .word 0x00c28693  # addi x13, x5, 12
     .word 0x002684b3  # add x9, x13, x2
@@ -587,7 +516,7 @@ ascon_aead128_encrypt:
     .word 0x07348223  # sb x19, 100(x9)
     .word 0x00a69463  # bne x13, x10, 8
     .word 0x0019c993  # xori x19, x19, 1
-    .word 0x0c012283  # lw x5, 192(x2)
+    .word 0x0bc12283  # lw x5, 188(x2)
     .word 0x00429293  # slli x5, x5, 4
     .word 0x00d28693  # addi x13, x5, 13
     .word 0x002684b3  # add x9, x13, x2
@@ -615,7 +544,7 @@ ascon_aead128_encrypt:
     .word 0x06548223  # sb x5, 100(x9)
     .word 0x00a69463  # bne x13, x10, 8
     .word 0x1009c993  # xori x19, x19, 256
-    .word 0x0c012283  # lw x5, 192(x2)
+    .word 0x0bc12283  # lw x5, 188(x2)
     .word 0x00429293  # slli x5, x5, 4
     .word 0x00e28693  # addi x13, x5, 14
     .word 0x002684b3  # add x9, x13, x2
@@ -644,7 +573,7 @@ ascon_aead128_encrypt:
     .word 0x00a69663  # bne x13, x10, 12
     .word 0x0e012303  # lw x6, 224(x2)
     .word 0x0069c9b3  # xor x19, x19, x6
-    .word 0x0c012283  # lw x5, 192(x2)
+    .word 0x0bc12283  # lw x5, 188(x2)
     .word 0x00429293  # slli x5, x5, 4
     .word 0x00f28693  # addi x13, x5, 15
     .word 0x002684b3  # add x9, x13, x2
@@ -673,7 +602,7 @@ ascon_aead128_encrypt:
     .word 0x00a69663  # bne x13, x10, 12
     .word 0x0e412303  # lw x6, 228(x2)
     .word 0x0069c9b3  # xor x19, x19, x6
-    .word 0x0bc12303  # lw x6, 188(x2)
+    .word 0x0c012303  # lw x6, 192(x2)
     .word 0x02661663  # bne x12, x6, 44
     .word 0x0cc12303  # lw x6, 204(x2)
     .word 0x006dcdb3  # xor x27, x27, x6
@@ -685,10 +614,10 @@ ascon_aead128_encrypt:
     .word 0x0068c8b3  # xor x17, x17, x6
     .word 0x0d812303  # lw x6, 216(x2)
     .word 0x006bcbb3  # xor x23, x23, x6
-    .word 0x0bc12303  # lw x6, 188(x2)
+    .word 0x0c012303  # lw x6, 192(x2)
     .word 0x2ac36c63  # bltu x6, x12, 696
     .word 0x00163293  # sltiu x5, x12, 1
-    .word 0x0bc12383  # lw x7, 188(x2)
+    .word 0x0c012383  # lw x7, 192(x2)
     .word 0x40760333  # sub x6, x12, x7
     .word 0x00133313  # sltiu x6, x6, 1
     .word 0x0062e2b3  # or x5, x5, x6
@@ -861,7 +790,7 @@ ascon_aead128_encrypt:
     .word 0xfffaca93  # xori x21, x21, -1
     .word 0xfffd4d13  # xori x26, x26, -1
     .word 0x00163293  # sltiu x5, x12, 1
-    .word 0x0bc12383  # lw x7, 188(x2)
+    .word 0x0c012383  # lw x7, 192(x2)
     .word 0x40760333  # sub x6, x12, x7
     .word 0x00133313  # sltiu x6, x6, 1
     .word 0x0062e2b3  # or x5, x5, x6
@@ -874,10 +803,8 @@ ascon_aead128_encrypt:
     .word 0x006acab3  # xor x21, x21, x6
     .word 0x0d812303  # lw x6, 216(x2)
     .word 0x006d4d33  # xor x26, x26, x6
-    .word 0x00160613  # addi x12, x12, 1
-    .word 0x00b63293  # sltiu x5, x12, 11
+    .word 0xff660293  # addi x5, x12, -10
     .word 0xd8029663  # bne x5, x0, -2676
-    .word 0xfff60613  # addi x12, x12, -1
     .word 0x0b710423  # sb x23, 168(x2)
     .word 0x008bd293  # srli x5, x23, 8
     .word 0x0a5104a3  # sb x5, 169(x2)

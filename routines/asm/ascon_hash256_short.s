@@ -1,4 +1,4 @@
-# ascon_hash256_short: made by factc 1.0.0 function; 395 words, 384 bytes of stack, profile 1
+# ascon_hash256_short: made by factc 1.0.0 function; 392 words, 384 bytes of stack, profile 1
     .option push
     .option norvc
     .option norelax
@@ -46,7 +46,7 @@ ascon_hash256_short:
     .word 0x00050293  # addi x5, x10, 0
     .word 0x00010313  # addi x6, x2, 0
     .word 0x07c28393  # addi x7, x5, 124
-    .word 0x5a400f6f  # jal x30, 1444
+    .word 0x59800f6f  # jal x30, 1432
     .word 0x0002ce03  # lbu x28, 0(x5)
     .word 0x01c30023  # sb x28, 0(x6)
     .word 0x0012ce03  # lbu x28, 1(x5)
@@ -59,11 +59,10 @@ ascon_hash256_short:
     .word 0x00060293  # addi x5, x12, 0
     .word 0x08410313  # addi x6, x2, 132
     .word 0x02028393  # addi x7, x5, 32
-    .word 0x57800f6f  # jal x30, 1400
+    .word 0x56c00f6f  # jal x30, 1388
     # the body
     .word 0x00000513  # addi x10, x0, 0
     .word 0x00000613  # addi x12, x0, 0
-    .word 0x00000813  # addi x16, x0, 0
     .word 0x00000a13  # addi x20, x0, 0
     .word 0x00000b13  # addi x22, x0, 0
     .word 0x00000493  # addi x9, x0, 0
@@ -80,7 +79,7 @@ ascon_hash256_short:
     .word 0x00734333  # xor x6, x6, x7
     .word 0x00537333  # and x6, x6, x5
     .word 0x0063c2b3  # xor x5, x7, x6
-    .word 0x07f2f593  # andi x11, x5, 127
+    .word 0x07f2f893  # andi x17, x5, 127
     .word 0x0a400313  # addi x6, x0, 164
     .word 0x00230333  # add x6, x6, x2
     .word 0x08000393  # addi x7, x0, 128
@@ -92,7 +91,7 @@ ascon_hash256_short:
     .word 0x00430313  # addi x6, x6, 4
     .word 0xfedff06f  # jal x0, -20
     .word 0x12012823  # sw x0, 304(x2)
-    .word 0x0025d293  # srli x5, x11, 2
+    .word 0x0028d293  # srli x5, x17, 2
     .word 0x12512a23  # sw x5, 308(x2)
     .word 0x13012303  # lw x6, 304(x2)
     .word 0x13412283  # lw x5, 308(x2)
@@ -100,18 +99,18 @@ ascon_hash256_short:
     .word 0x00029463  # bne x5, x0, 8
     .word 0x0680006f  # jal x0, 104
     .word 0x00030513  # addi x10, x6, 0
-    .word 0x00251893  # slli x17, x10, 2
-    .word 0x002882b3  # add x5, x17, x2
-    .word 0x0002c283  # lbu x5, 0(x5)
-    .word 0x00288333  # add x6, x17, x2
-    .word 0x00134303  # lbu x6, 1(x6)
-    .word 0x00831313  # slli x6, x6, 8
-    .word 0x0062e933  # or x18, x5, x6
-    .word 0x002883b3  # add x7, x17, x2
+    .word 0x00251813  # slli x16, x10, 2
+    .word 0x00280333  # add x6, x16, x2
+    .word 0x00034303  # lbu x6, 0(x6)
+    .word 0x002803b3  # add x7, x16, x2
+    .word 0x0013c383  # lbu x7, 1(x7)
+    .word 0x00839393  # slli x7, x7, 8
+    .word 0x00736333  # or x6, x6, x7
+    .word 0x002803b3  # add x7, x16, x2
     .word 0x0023c383  # lbu x7, 2(x7)
     .word 0x01039393  # slli x7, x7, 16
-    .word 0x00796333  # or x6, x18, x7
-    .word 0x002883b3  # add x7, x17, x2
+    .word 0x00736333  # or x6, x6, x7
+    .word 0x002803b3  # add x7, x16, x2
     .word 0x0033c383  # lbu x7, 3(x7)
     .word 0x01839393  # slli x7, x7, 24
     .word 0x00736333  # or x6, x6, x7
@@ -125,13 +124,13 @@ ascon_hash256_short:
     .word 0xfff50513  # addi x10, x10, -1
     .word 0x0040006f  # jal x0, 4
     .word 0x00100293  # addi x5, x0, 1
-    .word 0x0035f313  # andi x6, x11, 3
+    .word 0x0038f313  # andi x6, x17, 3
     .word 0x00331313  # slli x6, x6, 3
     .word 0x00629933  # sll x18, x5, x6
-    .word 0x0025d293  # srli x5, x11, 2
+    .word 0x0028d293  # srli x5, x17, 2
     .word 0x00229293  # slli x5, x5, 2
     .word 0x12512823  # sw x5, 304(x2)
-    .word 0x12b12a23  # sw x11, 308(x2)
+    .word 0x13112a23  # sw x17, 308(x2)
     .word 0x13012303  # lw x6, 304(x2)
     .word 0x13412283  # lw x5, 308(x2)
     .word 0x005332b3  # sltu x5, x6, x5
@@ -149,7 +148,7 @@ ascon_hash256_short:
     .word 0x00731333  # sll x6, x6, x7
     .word 0x00696933  # or x18, x18, x6
     .word 0xfc1ff06f  # jal x0, -64
-    .word 0x0025d293  # srli x5, x11, 2
+    .word 0x0028d293  # srli x5, x17, 2
     .word 0x00229293  # slli x5, x5, 2
     .word 0x002282b3  # add x5, x5, x2
     .word 0x0b22a223  # sw x18, 164(x5)
@@ -157,9 +156,10 @@ ascon_hash256_short:
     .word 0x80198993  # addi x19, x19, -2047
     .word 0x00cc0cb7  # lui x25, 0x00cc0
     .word 0x002c8c93  # addi x25, x25, 2
-    .word 0x0035d293  # srli x5, x11, 3
+    .word 0x0038d293  # srli x5, x17, 3
     .word 0x00128593  # addi x11, x5, 1
-    .word 0x00000613  # addi x12, x0, 0
+    .word 0xfff00613  # addi x12, x0, -1
+    .word 0x00160613  # addi x12, x12, 1
     .word 0x00c032b3  # sltu x5, x0, x12
     .word 0x00c5b333  # sltu x6, x11, x12
     .word 0x00133313  # sltiu x6, x6, 1
@@ -167,12 +167,12 @@ ascon_hash256_short:
     .word 0x02028863  # beq x5, x0, 48
     .word 0xfff60293  # addi x5, x12, -1
     .word 0x00f2f293  # andi x5, x5, 15
-    .word 0x00129893  # slli x17, x5, 1
-    .word 0x00289313  # slli x6, x17, 2
+    .word 0x00129813  # slli x16, x5, 1
+    .word 0x00281313  # slli x6, x16, 2
     .word 0x00230333  # add x6, x6, x2
     .word 0x0a832303  # lw x6, 168(x6)
     .word 0x0069c9b3  # xor x19, x19, x6
-    .word 0x00289313  # slli x6, x17, 2
+    .word 0x00281313  # slli x6, x16, 2
     .word 0x00230333  # add x6, x6, x2
     .word 0x0a432303  # lw x6, 164(x6)
     .word 0x006cccb3  # xor x25, x25, x6
@@ -183,7 +183,7 @@ ascon_hash256_short:
     .word 0x405002b3  # sub x5, x0, x5
     .word 0x00734333  # xor x6, x6, x7
     .word 0x00537333  # and x6, x6, x5
-    .word 0x0063c8b3  # xor x17, x7, x6
+    .word 0x0063c833  # xor x16, x7, x6
     .word 0x00098b93  # addi x23, x19, 0
     .word 0x000c8693  # addi x13, x25, 0
     .word 0xfffa4a13  # xori x20, x20, -1
@@ -195,10 +195,9 @@ ascon_hash256_short:
     .word 0xfffc4c13  # xori x24, x24, -1
     .word 0xfffaca93  # xori x21, x21, -1
     .word 0xfffdcd93  # xori x27, x27, -1
-    .word 0x00c8b313  # sltiu x6, x17, 12
+    .word 0x00c83313  # sltiu x6, x16, 12
     .word 0x00031463  # bne x6, x0, 8
-    .word 0x2000006f  # jal x0, 512
-    .word 0x00088813  # addi x16, x17, 0
+    .word 0x1fc0006f  # jal x0, 508
     .word 0x0f000293  # addi x5, x0, 240
     .word 0x00f00313  # addi x6, x0, 15
     .word 0x03030333  # mul x6, x6, x16
@@ -344,33 +343,31 @@ ascon_hash256_short:
     .word 0x06028463  # beq x5, x0, 104
     .word 0x40b602b3  # sub x5, x12, x11
     .word 0x0032f293  # andi x5, x5, 3
-    .word 0x00329893  # slli x17, x5, 3
-    .word 0x002882b3  # add x5, x17, x2
+    .word 0x00329813  # slli x16, x5, 3
+    .word 0x002802b3  # add x5, x16, x2
     .word 0x08d28223  # sb x13, 132(x5)
     .word 0x0086d313  # srli x6, x13, 8
-    .word 0x002882b3  # add x5, x17, x2
+    .word 0x002802b3  # add x5, x16, x2
     .word 0x086282a3  # sb x6, 133(x5)
     .word 0x0106d313  # srli x6, x13, 16
-    .word 0x002882b3  # add x5, x17, x2
+    .word 0x002802b3  # add x5, x16, x2
     .word 0x08628323  # sb x6, 134(x5)
     .word 0x0186d313  # srli x6, x13, 24
-    .word 0x002882b3  # add x5, x17, x2
+    .word 0x002802b3  # add x5, x16, x2
     .word 0x086283a3  # sb x6, 135(x5)
-    .word 0x002882b3  # add x5, x17, x2
+    .word 0x002802b3  # add x5, x16, x2
     .word 0x09728423  # sb x23, 136(x5)
     .word 0x008bd313  # srli x6, x23, 8
-    .word 0x002882b3  # add x5, x17, x2
+    .word 0x002802b3  # add x5, x16, x2
     .word 0x086284a3  # sb x6, 137(x5)
     .word 0x010bd313  # srli x6, x23, 16
-    .word 0x002882b3  # add x5, x17, x2
+    .word 0x002802b3  # add x5, x16, x2
     .word 0x08628523  # sb x6, 138(x5)
     .word 0x018bd313  # srli x6, x23, 24
-    .word 0x002882b3  # add x5, x17, x2
+    .word 0x002802b3  # add x5, x16, x2
     .word 0x086285a3  # sb x6, 139(x5)
-    .word 0x00160613  # addi x12, x12, 1
-    .word 0x01463293  # sltiu x5, x12, 20
-    .word 0xca029ee3  # bne x5, x0, -836
-    .word 0xfff60613  # addi x12, x12, -1
+    .word 0xfed60293  # addi x5, x12, -19
+    .word 0xcc0290e3  # bne x5, x0, -832
     # the result
     .word 0x00000513  # addi x10, x0, 0
     # parameter 2: the array, back

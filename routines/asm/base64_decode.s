@@ -1,4 +1,4 @@
-# base64_decode: made by factc 1.0.0 function; 179 words, 176 bytes of stack, profile 1
+# base64_decode: made by factc 1.0.0 function; 177 words, 176 bytes of stack, profile 1
     .option push
     .option norvc
     .option norelax
@@ -30,14 +30,14 @@ base64_decode:
     .word 0x00050293  # addi x5, x10, 0
     .word 0x00010313  # addi x6, x2, 0
     .word 0x04028393  # addi x7, x5, 64
-    .word 0x24c00f6f  # jal x30, 588
+    .word 0x24400f6f  # jal x30, 580
     # parameter 1: a word
     .word 0x04b12023  # sw x11, 64(x2)
     # parameter 2: an array
     .word 0x00060293  # addi x5, x12, 0
     .word 0x04410313  # addi x6, x2, 68
     .word 0x03028393  # addi x7, x5, 48
-    .word 0x23800f6f  # jal x30, 568
+    .word 0x23000f6f  # jal x30, 560
     # the body
     .word 0x04012503  # lw x10, 64(x2)
     .word 0x00000713  # addi x14, x0, 0
@@ -48,13 +48,15 @@ base64_decode:
     .word 0x405005b3  # sub x11, x0, x5
     .word 0x00000613  # addi x12, x0, 0
     .word 0x00000693  # addi x13, x0, 0
-    .word 0x00000713  # addi x14, x0, 0
+    .word 0xfff00713  # addi x14, x0, -1
+    .word 0x00170713  # addi x14, x14, 1
     .word 0x00271793  # slli x15, x14, 2
-    .word 0x14a7fe63  # bgeu x15, x10, 348
+    .word 0x14a7fc63  # bgeu x15, x10, 344
     .word 0x40d00333  # sub x6, x0, x13
     .word 0x0065e5b3  # or x11, x11, x6
     .word 0x00000813  # addi x16, x0, 0
-    .word 0x00000893  # addi x17, x0, 0
+    .word 0xfff00893  # addi x17, x0, -1
+    .word 0x00188893  # addi x17, x17, 1
     .word 0x011782b3  # add x5, x15, x17
     .word 0x00228933  # add x18, x5, x2
     .word 0x00094903  # lbu x18, 0(x18)
@@ -97,10 +99,8 @@ base64_decode:
     .word 0xfc390313  # addi x6, x18, -61
     .word 0x00133313  # sltiu x6, x6, 1
     .word 0x0062e6b3  # or x13, x5, x6
-    .word 0x00188893  # addi x17, x17, 1
-    .word 0x0048b293  # sltiu x5, x17, 4
+    .word 0xffd88293  # addi x5, x17, -3
     .word 0xf40298e3  # bne x5, x0, -176
-    .word 0xfff88893  # addi x17, x17, -1
     .word 0x00f6f693  # andi x13, x13, 15
     .word 0x0016f293  # andi x5, x13, 1
     .word 0x405002b3  # sub x5, x0, x5
@@ -137,10 +137,8 @@ base64_decode:
     .word 0x02e282b3  # mul x5, x5, x14
     .word 0x002282b3  # add x5, x5, x2
     .word 0x05028323  # sb x16, 70(x5)
-    .word 0x00170713  # addi x14, x14, 1
-    .word 0x01073293  # sltiu x5, x14, 16
-    .word 0xe8029ce3  # bne x5, x0, -360
-    .word 0xfff70713  # addi x14, x14, -1
+    .word 0xff170293  # addi x5, x14, -15
+    .word 0xe8029ee3  # bne x5, x0, -356
     .word 0x1005b293  # sltiu x5, x11, 256
     .word 0x0ff67313  # andi x6, x12, 255
     .word 0x0ff00393  # addi x7, x0, 255

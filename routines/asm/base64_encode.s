@@ -1,4 +1,4 @@
-# base64_encode: made by factc 1.0.0 function; 180 words, 160 bytes of stack, profile 1
+# base64_encode: made by factc 1.0.0 function; 179 words, 160 bytes of stack, profile 1
     .option push
     .option norvc
     .option norelax
@@ -28,18 +28,19 @@ base64_encode:
     .word 0x00050293  # addi x5, x10, 0
     .word 0x00010313  # addi x6, x2, 0
     .word 0x03028393  # addi x7, x5, 48
-    .word 0x25400f6f  # jal x30, 596
+    .word 0x25000f6f  # jal x30, 592
     # parameter 1: a word
     .word 0x02b12823  # sw x11, 48(x2)
     # parameter 2: an array
     .word 0x00060293  # addi x5, x12, 0
     .word 0x03410313  # addi x6, x2, 52
     .word 0x04028393  # addi x7, x5, 64
-    .word 0x24000f6f  # jal x30, 576
+    .word 0x23c00f6f  # jal x30, 572
     # the body
     .word 0x03012503  # lw x10, 48(x2)
     .word 0x00000593  # addi x11, x0, 0
-    .word 0x00000593  # addi x11, x0, 0
+    .word 0xfff00593  # addi x11, x0, -1
+    .word 0x00158593  # addi x11, x11, 1
     .word 0x00259613  # slli x12, x11, 2
     .word 0x00260933  # add x18, x12, x2
     .word 0x00300293  # addi x5, x0, 3
@@ -146,10 +147,8 @@ base64_encode:
     .word 0x02090aa3  # sb x0, 53(x18)
     .word 0x02090b23  # sb x0, 54(x18)
     .word 0x02090ba3  # sb x0, 55(x18)
-    .word 0x00158593  # addi x11, x11, 1
-    .word 0x0105b293  # sltiu x5, x11, 16
+    .word 0xff158293  # addi x5, x11, -15
     .word 0xe40298e3  # bne x5, x0, -432
-    .word 0xfff58593  # addi x11, x11, -1
     # the result
     .word 0x00000513  # addi x10, x0, 0
     # parameter 2: the array, back

@@ -1,4 +1,4 @@
-# blake2s_block: made by factc 1.0.0 function; 2207 words, 224 bytes of stack, profile 1
+# blake2s_block: made by factc 1.0.0 function; 2063 words, 224 bytes of stack, profile 1
     .option push
     .option norvc
     .option norelax
@@ -46,12 +46,12 @@ blake2s_block:
     .word 0x00050293  # addi x5, x10, 0
     .word 0x00010313  # addi x6, x2, 0
     .word 0x02028393  # addi x7, x5, 32
-    .word 0x1e002f6f  # jal x30, 8672
+    .word 0x7a101f6f  # jal x30, 8096
     # parameter 1: an array
     .word 0x00058293  # addi x5, x11, 0
     .word 0x02010313  # addi x6, x2, 32
     .word 0x04028393  # addi x7, x5, 64
-    .word 0x1d002f6f  # jal x30, 8656
+    .word 0x79101f6f  # jal x30, 8080
     # parameter 2: an array
     .word 0x00060293  # addi x5, x12, 0
     .word 0x06010313  # addi x6, x2, 96
@@ -63,177 +63,33 @@ blake2s_block:
     .word 0x00d036b3  # sltu x13, x0, x13
     .word 0x06d12423  # sw x13, 104(x2)
     # the body
-    .word 0x02014283  # lbu x5, 32(x2)
-    .word 0x02114303  # lbu x6, 33(x2)
-    .word 0x00831313  # slli x6, x6, 8
-    .word 0x0062e533  # or x10, x5, x6
-    .word 0x02214283  # lbu x5, 34(x2)
-    .word 0x01029293  # slli x5, x5, 16
-    .word 0x02314303  # lbu x6, 35(x2)
-    .word 0x01831313  # slli x6, x6, 24
-    .word 0x0062e5b3  # or x11, x5, x6
-    .word 0x00b56d33  # or x26, x10, x11
-    .word 0x02414283  # lbu x5, 36(x2)
-    .word 0x02514303  # lbu x6, 37(x2)
-    .word 0x00831313  # slli x6, x6, 8
-    .word 0x0062e533  # or x10, x5, x6
-    .word 0x02614283  # lbu x5, 38(x2)
-    .word 0x01029293  # slli x5, x5, 16
-    .word 0x02714303  # lbu x6, 39(x2)
-    .word 0x01831313  # slli x6, x6, 24
-    .word 0x0062e5b3  # or x11, x5, x6
-    .word 0x00b56db3  # or x27, x10, x11
-    .word 0x02814283  # lbu x5, 40(x2)
-    .word 0x02914303  # lbu x6, 41(x2)
-    .word 0x00831313  # slli x6, x6, 8
-    .word 0x0062e533  # or x10, x5, x6
-    .word 0x02a14283  # lbu x5, 42(x2)
-    .word 0x01029293  # slli x5, x5, 16
-    .word 0x02b14303  # lbu x6, 43(x2)
-    .word 0x01831313  # slli x6, x6, 24
-    .word 0x0062e5b3  # or x11, x5, x6
-    .word 0x00b56433  # or x8, x10, x11
-    .word 0x02c14283  # lbu x5, 44(x2)
-    .word 0x02d14303  # lbu x6, 45(x2)
-    .word 0x00831313  # slli x6, x6, 8
-    .word 0x0062e533  # or x10, x5, x6
-    .word 0x02e14283  # lbu x5, 46(x2)
-    .word 0x01029293  # slli x5, x5, 16
-    .word 0x02f14303  # lbu x6, 47(x2)
-    .word 0x01831313  # slli x6, x6, 24
-    .word 0x0062e5b3  # or x11, x5, x6
-    .word 0x00b564b3  # or x9, x10, x11
-    .word 0x03014283  # lbu x5, 48(x2)
-    .word 0x03114303  # lbu x6, 49(x2)
-    .word 0x00831313  # slli x6, x6, 8
-    .word 0x0062e533  # or x10, x5, x6
-    .word 0x03214283  # lbu x5, 50(x2)
-    .word 0x01029293  # slli x5, x5, 16
-    .word 0x03314303  # lbu x6, 51(x2)
-    .word 0x01831313  # slli x6, x6, 24
-    .word 0x0062e5b3  # or x11, x5, x6
-    .word 0x00b562b3  # or x5, x10, x11
+    .word 0x02012d03  # lw x26, 32(x2)
+    .word 0x02412d83  # lw x27, 36(x2)
+    .word 0x02812403  # lw x8, 40(x2)
+    .word 0x02c12483  # lw x9, 44(x2)
+    .word 0x03012283  # lw x5, 48(x2)
     .word 0x06512623  # sw x5, 108(x2)
-    .word 0x03414283  # lbu x5, 52(x2)
-    .word 0x03514303  # lbu x6, 53(x2)
-    .word 0x00831313  # slli x6, x6, 8
-    .word 0x0062e533  # or x10, x5, x6
-    .word 0x03614283  # lbu x5, 54(x2)
-    .word 0x01029293  # slli x5, x5, 16
-    .word 0x03714303  # lbu x6, 55(x2)
-    .word 0x01831313  # slli x6, x6, 24
-    .word 0x0062e5b3  # or x11, x5, x6
-    .word 0x00b562b3  # or x5, x10, x11
+    .word 0x03412283  # lw x5, 52(x2)
     .word 0x06512823  # sw x5, 112(x2)
-    .word 0x03814283  # lbu x5, 56(x2)
-    .word 0x03914303  # lbu x6, 57(x2)
-    .word 0x00831313  # slli x6, x6, 8
-    .word 0x0062e533  # or x10, x5, x6
-    .word 0x03a14283  # lbu x5, 58(x2)
-    .word 0x01029293  # slli x5, x5, 16
-    .word 0x03b14303  # lbu x6, 59(x2)
-    .word 0x01831313  # slli x6, x6, 24
-    .word 0x0062e5b3  # or x11, x5, x6
-    .word 0x00b562b3  # or x5, x10, x11
+    .word 0x03812283  # lw x5, 56(x2)
     .word 0x06512a23  # sw x5, 116(x2)
-    .word 0x03c14283  # lbu x5, 60(x2)
-    .word 0x03d14303  # lbu x6, 61(x2)
-    .word 0x00831313  # slli x6, x6, 8
-    .word 0x0062e533  # or x10, x5, x6
-    .word 0x03e14283  # lbu x5, 62(x2)
-    .word 0x01029293  # slli x5, x5, 16
-    .word 0x03f14303  # lbu x6, 63(x2)
-    .word 0x01831313  # slli x6, x6, 24
-    .word 0x0062e5b3  # or x11, x5, x6
-    .word 0x00b562b3  # or x5, x10, x11
+    .word 0x03c12283  # lw x5, 60(x2)
     .word 0x06512c23  # sw x5, 120(x2)
-    .word 0x04014283  # lbu x5, 64(x2)
-    .word 0x04114303  # lbu x6, 65(x2)
-    .word 0x00831313  # slli x6, x6, 8
-    .word 0x0062e533  # or x10, x5, x6
-    .word 0x04214283  # lbu x5, 66(x2)
-    .word 0x01029293  # slli x5, x5, 16
-    .word 0x04314303  # lbu x6, 67(x2)
-    .word 0x01831313  # slli x6, x6, 24
-    .word 0x0062e5b3  # or x11, x5, x6
-    .word 0x00b562b3  # or x5, x10, x11
+    .word 0x04012283  # lw x5, 64(x2)
     .word 0x06512e23  # sw x5, 124(x2)
-    .word 0x04414283  # lbu x5, 68(x2)
-    .word 0x04514303  # lbu x6, 69(x2)
-    .word 0x00831313  # slli x6, x6, 8
-    .word 0x0062e533  # or x10, x5, x6
-    .word 0x04614283  # lbu x5, 70(x2)
-    .word 0x01029293  # slli x5, x5, 16
-    .word 0x04714303  # lbu x6, 71(x2)
-    .word 0x01831313  # slli x6, x6, 24
-    .word 0x0062e5b3  # or x11, x5, x6
-    .word 0x00b562b3  # or x5, x10, x11
+    .word 0x04412283  # lw x5, 68(x2)
     .word 0x08512023  # sw x5, 128(x2)
-    .word 0x04814283  # lbu x5, 72(x2)
-    .word 0x04914303  # lbu x6, 73(x2)
-    .word 0x00831313  # slli x6, x6, 8
-    .word 0x0062e533  # or x10, x5, x6
-    .word 0x04a14283  # lbu x5, 74(x2)
-    .word 0x01029293  # slli x5, x5, 16
-    .word 0x04b14303  # lbu x6, 75(x2)
-    .word 0x01831313  # slli x6, x6, 24
-    .word 0x0062e5b3  # or x11, x5, x6
-    .word 0x00b562b3  # or x5, x10, x11
+    .word 0x04812283  # lw x5, 72(x2)
     .word 0x08512223  # sw x5, 132(x2)
-    .word 0x04c14283  # lbu x5, 76(x2)
-    .word 0x04d14303  # lbu x6, 77(x2)
-    .word 0x00831313  # slli x6, x6, 8
-    .word 0x0062e533  # or x10, x5, x6
-    .word 0x04e14283  # lbu x5, 78(x2)
-    .word 0x01029293  # slli x5, x5, 16
-    .word 0x04f14303  # lbu x6, 79(x2)
-    .word 0x01831313  # slli x6, x6, 24
-    .word 0x0062e5b3  # or x11, x5, x6
-    .word 0x00b562b3  # or x5, x10, x11
+    .word 0x04c12283  # lw x5, 76(x2)
     .word 0x08512423  # sw x5, 136(x2)
-    .word 0x05014283  # lbu x5, 80(x2)
-    .word 0x05114303  # lbu x6, 81(x2)
-    .word 0x00831313  # slli x6, x6, 8
-    .word 0x0062e533  # or x10, x5, x6
-    .word 0x05214283  # lbu x5, 82(x2)
-    .word 0x01029293  # slli x5, x5, 16
-    .word 0x05314303  # lbu x6, 83(x2)
-    .word 0x01831313  # slli x6, x6, 24
-    .word 0x0062e5b3  # or x11, x5, x6
-    .word 0x00b562b3  # or x5, x10, x11
+    .word 0x05012283  # lw x5, 80(x2)
     .word 0x08512623  # sw x5, 140(x2)
-    .word 0x05414283  # lbu x5, 84(x2)
-    .word 0x05514303  # lbu x6, 85(x2)
-    .word 0x00831313  # slli x6, x6, 8
-    .word 0x0062e533  # or x10, x5, x6
-    .word 0x05614283  # lbu x5, 86(x2)
-    .word 0x01029293  # slli x5, x5, 16
-    .word 0x05714303  # lbu x6, 87(x2)
-    .word 0x01831313  # slli x6, x6, 24
-    .word 0x0062e5b3  # or x11, x5, x6
-    .word 0x00b562b3  # or x5, x10, x11
+    .word 0x05412283  # lw x5, 84(x2)
     .word 0x08512823  # sw x5, 144(x2)
-    .word 0x05814283  # lbu x5, 88(x2)
-    .word 0x05914303  # lbu x6, 89(x2)
-    .word 0x00831313  # slli x6, x6, 8
-    .word 0x0062e533  # or x10, x5, x6
-    .word 0x05a14283  # lbu x5, 90(x2)
-    .word 0x01029293  # slli x5, x5, 16
-    .word 0x05b14303  # lbu x6, 91(x2)
-    .word 0x01831313  # slli x6, x6, 24
-    .word 0x0062e5b3  # or x11, x5, x6
-    .word 0x00b562b3  # or x5, x10, x11
+    .word 0x05812283  # lw x5, 88(x2)
     .word 0x08512a23  # sw x5, 148(x2)
-    .word 0x05c14283  # lbu x5, 92(x2)
-    .word 0x05d14303  # lbu x6, 93(x2)
-    .word 0x00831313  # slli x6, x6, 8
-    .word 0x0062e533  # or x10, x5, x6
-    .word 0x05e14283  # lbu x5, 94(x2)
-    .word 0x01029293  # slli x5, x5, 16
-    .word 0x05f14303  # lbu x6, 95(x2)
-    .word 0x01831313  # slli x6, x6, 24
-    .word 0x0062e5b3  # or x11, x5, x6
-    .word 0x00b562b3  # or x5, x10, x11
+    .word 0x05c12283  # lw x5, 92(x2)
     .word 0x08512c23  # sw x5, 152(x2)
     .word 0x00012503  # lw x10, 0(x2)
     .word 0x00412583  # lw x11, 4(x2)

@@ -1,4 +1,4 @@
-# chacha20_blocks: made by factc 1.0.0 function; 795 words, 576 bytes of stack, profile 1
+# chacha20_blocks: made by factc 1.0.0 function; 691 words, 576 bytes of stack, profile 1
     .option push
     .option norvc
     .option norelax
@@ -47,181 +47,77 @@ chacha20_blocks:
     .word 0x00050293  # addi x5, x10, 0
     .word 0x00010313  # addi x6, x2, 0
     .word 0x02028393  # addi x7, x5, 32
-    .word 0x3e100f6f  # jal x30, 3040
+    .word 0x24100f6f  # jal x30, 2624
     # parameter 1: a word
     .word 0x02b12023  # sw x11, 32(x2)
     # parameter 2: an array
     .word 0x00060293  # addi x5, x12, 0
     .word 0x02410313  # addi x6, x2, 36
     .word 0x00c28393  # addi x7, x5, 12
-    .word 0x3cd00f6f  # jal x30, 3020
+    .word 0x22d00f6f  # jal x30, 2604
     # parameter 3: an array
     .word 0x00068293  # addi x5, x13, 0
     .word 0x03010313  # addi x6, x2, 48
     .word 0x10028393  # addi x7, x5, 256
-    .word 0x3bd00f6f  # jal x30, 3004
+    .word 0x21d00f6f  # jal x30, 2588
     # parameter 4: a word
     .word 0x12e12823  # sw x14, 304(x2)
     # the body
-    .word 0x00014283  # lbu x5, 0(x2)
-    .word 0x00114303  # lbu x6, 1(x2)
-    .word 0x00831313  # slli x6, x6, 8
-    .word 0x0062e733  # or x14, x5, x6
-    .word 0x00214303  # lbu x6, 2(x2)
-    .word 0x01031313  # slli x6, x6, 16
-    .word 0x006762b3  # or x5, x14, x6
-    .word 0x00314303  # lbu x6, 3(x2)
-    .word 0x01831313  # slli x6, x6, 24
-    .word 0x0062e2b3  # or x5, x5, x6
+    .word 0x00012283  # lw x5, 0(x2)
     .word 0x12512a23  # sw x5, 308(x2)
-    .word 0x00414283  # lbu x5, 4(x2)
-    .word 0x00514303  # lbu x6, 5(x2)
-    .word 0x00831313  # slli x6, x6, 8
-    .word 0x0062e733  # or x14, x5, x6
-    .word 0x00614303  # lbu x6, 6(x2)
-    .word 0x01031313  # slli x6, x6, 16
-    .word 0x006762b3  # or x5, x14, x6
-    .word 0x00714303  # lbu x6, 7(x2)
-    .word 0x01831313  # slli x6, x6, 24
-    .word 0x0062e2b3  # or x5, x5, x6
+    .word 0x00412283  # lw x5, 4(x2)
     .word 0x12512c23  # sw x5, 312(x2)
-    .word 0x00814283  # lbu x5, 8(x2)
-    .word 0x00914303  # lbu x6, 9(x2)
-    .word 0x00831313  # slli x6, x6, 8
-    .word 0x0062e733  # or x14, x5, x6
-    .word 0x00a14303  # lbu x6, 10(x2)
-    .word 0x01031313  # slli x6, x6, 16
-    .word 0x006762b3  # or x5, x14, x6
-    .word 0x00b14303  # lbu x6, 11(x2)
-    .word 0x01831313  # slli x6, x6, 24
-    .word 0x0062e2b3  # or x5, x5, x6
+    .word 0x00812283  # lw x5, 8(x2)
     .word 0x12512e23  # sw x5, 316(x2)
-    .word 0x00c14283  # lbu x5, 12(x2)
-    .word 0x00d14303  # lbu x6, 13(x2)
-    .word 0x00831313  # slli x6, x6, 8
-    .word 0x0062e733  # or x14, x5, x6
-    .word 0x00e14303  # lbu x6, 14(x2)
-    .word 0x01031313  # slli x6, x6, 16
-    .word 0x006762b3  # or x5, x14, x6
-    .word 0x00f14303  # lbu x6, 15(x2)
-    .word 0x01831313  # slli x6, x6, 24
-    .word 0x0062e2b3  # or x5, x5, x6
+    .word 0x00c12283  # lw x5, 12(x2)
     .word 0x14512023  # sw x5, 320(x2)
-    .word 0x01014283  # lbu x5, 16(x2)
-    .word 0x01114303  # lbu x6, 17(x2)
-    .word 0x00831313  # slli x6, x6, 8
-    .word 0x0062e733  # or x14, x5, x6
-    .word 0x01214303  # lbu x6, 18(x2)
-    .word 0x01031313  # slli x6, x6, 16
-    .word 0x006762b3  # or x5, x14, x6
-    .word 0x01314303  # lbu x6, 19(x2)
-    .word 0x01831313  # slli x6, x6, 24
-    .word 0x0062e2b3  # or x5, x5, x6
+    .word 0x01012283  # lw x5, 16(x2)
     .word 0x14512223  # sw x5, 324(x2)
-    .word 0x01414283  # lbu x5, 20(x2)
-    .word 0x01514303  # lbu x6, 21(x2)
-    .word 0x00831313  # slli x6, x6, 8
-    .word 0x0062e733  # or x14, x5, x6
-    .word 0x01614303  # lbu x6, 22(x2)
-    .word 0x01031313  # slli x6, x6, 16
-    .word 0x006762b3  # or x5, x14, x6
-    .word 0x01714303  # lbu x6, 23(x2)
-    .word 0x01831313  # slli x6, x6, 24
-    .word 0x0062e2b3  # or x5, x5, x6
+    .word 0x01412283  # lw x5, 20(x2)
     .word 0x14512423  # sw x5, 328(x2)
-    .word 0x01814283  # lbu x5, 24(x2)
-    .word 0x01914303  # lbu x6, 25(x2)
-    .word 0x00831313  # slli x6, x6, 8
-    .word 0x0062e733  # or x14, x5, x6
-    .word 0x01a14303  # lbu x6, 26(x2)
-    .word 0x01031313  # slli x6, x6, 16
-    .word 0x006762b3  # or x5, x14, x6
-    .word 0x01b14303  # lbu x6, 27(x2)
-    .word 0x01831313  # slli x6, x6, 24
-    .word 0x0062e2b3  # or x5, x5, x6
+    .word 0x01812283  # lw x5, 24(x2)
     .word 0x14512623  # sw x5, 332(x2)
-    .word 0x01c14283  # lbu x5, 28(x2)
-    .word 0x01d14303  # lbu x6, 29(x2)
-    .word 0x00831313  # slli x6, x6, 8
-    .word 0x0062e733  # or x14, x5, x6
-    .word 0x01e14303  # lbu x6, 30(x2)
-    .word 0x01031313  # slli x6, x6, 16
-    .word 0x006762b3  # or x5, x14, x6
-    .word 0x01f14303  # lbu x6, 31(x2)
-    .word 0x01831313  # slli x6, x6, 24
-    .word 0x0062e2b3  # or x5, x5, x6
+    .word 0x01c12283  # lw x5, 28(x2)
     .word 0x14512823  # sw x5, 336(x2)
-    .word 0x02414283  # lbu x5, 36(x2)
-    .word 0x02514303  # lbu x6, 37(x2)
-    .word 0x00831313  # slli x6, x6, 8
-    .word 0x0062ed33  # or x26, x5, x6
+    .word 0x02412d03  # lw x26, 36(x2)
     .word 0x002d0db3  # add x27, x26, x2
-    .word 0x02614303  # lbu x6, 38(x2)
-    .word 0x01031313  # slli x6, x6, 16
-    .word 0x006d62b3  # or x5, x26, x6
-    .word 0x02714303  # lbu x6, 39(x2)
-    .word 0x01831313  # slli x6, x6, 24
-    .word 0x0062ed33  # or x26, x5, x6
-    .word 0x002d0db3  # add x27, x26, x2
-    .word 0x02814283  # lbu x5, 40(x2)
-    .word 0x02914303  # lbu x6, 41(x2)
-    .word 0x00831313  # slli x6, x6, 8
-    .word 0x0062e2b3  # or x5, x5, x6
-    .word 0x14512c23  # sw x5, 344(x2)
-    .word 0x15812283  # lw x5, 344(x2)
-    .word 0x02a14303  # lbu x6, 42(x2)
-    .word 0x01031313  # slli x6, x6, 16
-    .word 0x0062e2b3  # or x5, x5, x6
-    .word 0x02b14303  # lbu x6, 43(x2)
-    .word 0x01831313  # slli x6, x6, 24
-    .word 0x0062e2b3  # or x5, x5, x6
-    .word 0x14512c23  # sw x5, 344(x2)
-    .word 0x02c14283  # lbu x5, 44(x2)
-    .word 0x02d14303  # lbu x6, 45(x2)
-    .word 0x00831313  # slli x6, x6, 8
-    .word 0x0062e2b3  # or x5, x5, x6
-    .word 0x14512a23  # sw x5, 340(x2)
-    .word 0x15412283  # lw x5, 340(x2)
-    .word 0x02e14303  # lbu x6, 46(x2)
-    .word 0x01031313  # slli x6, x6, 16
-    .word 0x0062e2b3  # or x5, x5, x6
-    .word 0x02f14303  # lbu x6, 47(x2)
-    .word 0x01831313  # slli x6, x6, 24
-    .word 0x0062e2b3  # or x5, x5, x6
-    .word 0x14512a23  # sw x5, 340(x2)
+    .word 0x02812283  # lw x5, 40(x2)
+    .word 0x14512e23  # sw x5, 348(x2)
+    .word 0x02c12283  # lw x5, 44(x2)
+    .word 0x1a512023  # sw x5, 416(x2)
     .word 0x617082b7  # lui x5, 0x61708
     .word 0x86528293  # addi x5, x5, -1947
-    .word 0x1a512423  # sw x5, 424(x2)
+    .word 0x1a512223  # sw x5, 420(x2)
     .word 0x332062b7  # lui x5, 0x33206
     .word 0x46e28293  # addi x5, x5, 1134
-    .word 0x1a512623  # sw x5, 428(x2)
+    .word 0x1a512423  # sw x5, 424(x2)
     .word 0x796232b7  # lui x5, 0x79623
     .word 0xd3228293  # addi x5, x5, -718
-    .word 0x1a512823  # sw x5, 432(x2)
+    .word 0x1a512623  # sw x5, 428(x2)
     .word 0x6b2062b7  # lui x5, 0x6b206
     .word 0x57428293  # addi x5, x5, 1396
-    .word 0x1a512a23  # sw x5, 436(x2)
+    .word 0x1a512823  # sw x5, 432(x2)
     .word 0x13412283  # lw x5, 308(x2)
-    .word 0x1a512c23  # sw x5, 440(x2)
+    .word 0x1a512a23  # sw x5, 436(x2)
     .word 0x13812283  # lw x5, 312(x2)
-    .word 0x1a512e23  # sw x5, 444(x2)
+    .word 0x1a512c23  # sw x5, 440(x2)
     .word 0x13c12283  # lw x5, 316(x2)
-    .word 0x1c512023  # sw x5, 448(x2)
+    .word 0x1a512e23  # sw x5, 444(x2)
     .word 0x14012283  # lw x5, 320(x2)
-    .word 0x1c512223  # sw x5, 452(x2)
+    .word 0x1c512023  # sw x5, 448(x2)
     .word 0x14412283  # lw x5, 324(x2)
-    .word 0x1c512423  # sw x5, 456(x2)
+    .word 0x1c512223  # sw x5, 452(x2)
     .word 0x14812283  # lw x5, 328(x2)
-    .word 0x1c512623  # sw x5, 460(x2)
+    .word 0x1c512423  # sw x5, 456(x2)
     .word 0x14c12283  # lw x5, 332(x2)
-    .word 0x1c512823  # sw x5, 464(x2)
+    .word 0x1c512623  # sw x5, 460(x2)
     .word 0x15012283  # lw x5, 336(x2)
-    .word 0x1c512a23  # sw x5, 468(x2)
-    .word 0x1da12e23  # sw x26, 476(x2)
-    .word 0x15812283  # lw x5, 344(x2)
+    .word 0x1c512823  # sw x5, 464(x2)
+    .word 0x1da12c23  # sw x26, 472(x2)
+    .word 0x15c12283  # lw x5, 348(x2)
+    .word 0x1c512e23  # sw x5, 476(x2)
+    .word 0x1a012283  # lw x5, 416(x2)
     .word 0x1e512023  # sw x5, 480(x2)
-    .word 0x15412283  # lw x5, 340(x2)
-    .word 0x1e512223  # sw x5, 484(x2)
     .word 0x13012283  # lw x5, 304(x2)
     .word 0x1002b293  # sltiu x5, x5, 256
     .word 0x13012303  # lw x6, 304(x2)
@@ -232,28 +128,28 @@ chacha20_blocks:
     .word 0x0063c2b3  # xor x5, x7, x6
     .word 0x10100313  # addi x6, x0, 257
     .word 0x0262f2b3  # remu x5, x5, x6
-    .word 0x14512c23  # sw x5, 344(x2)
-    .word 0x1e012623  # sw x0, 492(x2)
-    .word 0x15812283  # lw x5, 344(x2)
+    .word 0x14512a23  # sw x5, 340(x2)
+    .word 0x1e012423  # sw x0, 488(x2)
+    .word 0x15412283  # lw x5, 340(x2)
     .word 0x03f28293  # addi x5, x5, 63
     .word 0x0062d293  # srli x5, x5, 6
-    .word 0x1e512823  # sw x5, 496(x2)
-    .word 0x1ec12303  # lw x6, 492(x2)
-    .word 0x1f012283  # lw x5, 496(x2)
+    .word 0x1e512623  # sw x5, 492(x2)
+    .word 0x1e812303  # lw x6, 488(x2)
+    .word 0x1ec12283  # lw x5, 492(x2)
     .word 0x005332b3  # sltu x5, x6, x5
     .word 0x00029463  # bne x5, x0, 8
     .word 0x04d0006f  # jal x0, 2124
-    .word 0x14612e23  # sw x6, 348(x2)
+    .word 0x14612c23  # sw x6, 344(x2)
     .word 0x00130313  # addi x6, x6, 1
-    .word 0x1e612623  # sw x6, 492(x2)
+    .word 0x1e612423  # sw x6, 488(x2)
     .word 0x02012283  # lw x5, 32(x2)
-    .word 0x15c12303  # lw x6, 348(x2)
+    .word 0x15812303  # lw x6, 344(x2)
     .word 0x006282b3  # add x5, x5, x6
-    .word 0x1c512c23  # sw x5, 472(x2)
-    .word 0x1a812503  # lw x10, 424(x2)
-    .word 0x1ac12583  # lw x11, 428(x2)
-    .word 0x1b012603  # lw x12, 432(x2)
-    .word 0x1b412683  # lw x13, 436(x2)
+    .word 0x1c512a23  # sw x5, 468(x2)
+    .word 0x1a412503  # lw x10, 420(x2)
+    .word 0x1a812583  # lw x11, 424(x2)
+    .word 0x1ac12603  # lw x12, 428(x2)
+    .word 0x1b012683  # lw x13, 432(x2)
     .word 0x13412703  # lw x14, 308(x2)
     .word 0x13812783  # lw x15, 312(x2)
     .word 0x13c12803  # lw x16, 316(x2)
@@ -262,21 +158,21 @@ chacha20_blocks:
     .word 0x14812983  # lw x19, 328(x2)
     .word 0x14c12a03  # lw x20, 332(x2)
     .word 0x15012a83  # lw x21, 336(x2)
-    .word 0x1d812b03  # lw x22, 472(x2)
-    .word 0x1dc12b83  # lw x23, 476(x2)
-    .word 0x1e012c03  # lw x24, 480(x2)
-    .word 0x1e412c83  # lw x25, 484(x2)
-    .word 0x1e012a23  # sw x0, 500(x2)
+    .word 0x1d412b03  # lw x22, 468(x2)
+    .word 0x1d812b83  # lw x23, 472(x2)
+    .word 0x1dc12c03  # lw x24, 476(x2)
+    .word 0x1e012c83  # lw x25, 480(x2)
+    .word 0x1e012823  # sw x0, 496(x2)
     .word 0x00a00293  # addi x5, x0, 10
-    .word 0x1e512c23  # sw x5, 504(x2)
-    .word 0x1f412303  # lw x6, 500(x2)
-    .word 0x1f812283  # lw x5, 504(x2)
+    .word 0x1e512a23  # sw x5, 500(x2)
+    .word 0x1f012303  # lw x6, 496(x2)
+    .word 0x1f412283  # lw x5, 500(x2)
     .word 0x005332b3  # sltu x5, x6, x5
     .word 0x00029463  # bne x5, x0, 8
     .word 0x2940006f  # jal x0, 660
-    .word 0x16612023  # sw x6, 352(x2)
+    .word 0x14612e23  # sw x6, 348(x2)
     .word 0x00130313  # addi x6, x6, 1
-    .word 0x1e612a23  # sw x6, 500(x2)
+    .word 0x1e612823  # sw x6, 496(x2)
     .word 0x00e50533  # add x10, x10, x14
     .word 0x00ab4b33  # xor x22, x22, x10
     .word 0x010b1f13  # slli x30, x22, 16
@@ -438,43 +334,43 @@ chacha20_blocks:
     .word 0x01975713  # srli x14, x14, 25
     .word 0x00ef0733  # add x14, x30, x14
     .word 0xd61ff06f  # jal x0, -672
-    .word 0x1a812303  # lw x6, 424(x2)
+    .word 0x1a412303  # lw x6, 420(x2)
     .word 0x00650533  # add x10, x10, x6
-    .word 0x1ac12303  # lw x6, 428(x2)
+    .word 0x1a812303  # lw x6, 424(x2)
     .word 0x006585b3  # add x11, x11, x6
-    .word 0x1b012303  # lw x6, 432(x2)
+    .word 0x1ac12303  # lw x6, 428(x2)
     .word 0x00660633  # add x12, x12, x6
-    .word 0x1b412303  # lw x6, 436(x2)
+    .word 0x1b012303  # lw x6, 432(x2)
     .word 0x006686b3  # add x13, x13, x6
-    .word 0x1b812303  # lw x6, 440(x2)
+    .word 0x1b412303  # lw x6, 436(x2)
     .word 0x00670733  # add x14, x14, x6
-    .word 0x1bc12303  # lw x6, 444(x2)
+    .word 0x1b812303  # lw x6, 440(x2)
     .word 0x006787b3  # add x15, x15, x6
-    .word 0x1c012303  # lw x6, 448(x2)
+    .word 0x1bc12303  # lw x6, 444(x2)
     .word 0x00680833  # add x16, x16, x6
-    .word 0x1c412303  # lw x6, 452(x2)
+    .word 0x1c012303  # lw x6, 448(x2)
     .word 0x006888b3  # add x17, x17, x6
-    .word 0x1c812303  # lw x6, 456(x2)
+    .word 0x1c412303  # lw x6, 452(x2)
     .word 0x00690933  # add x18, x18, x6
-    .word 0x1cc12303  # lw x6, 460(x2)
+    .word 0x1c812303  # lw x6, 456(x2)
     .word 0x006989b3  # add x19, x19, x6
-    .word 0x1d012303  # lw x6, 464(x2)
+    .word 0x1cc12303  # lw x6, 460(x2)
     .word 0x006a0a33  # add x20, x20, x6
-    .word 0x1d412303  # lw x6, 468(x2)
+    .word 0x1d012303  # lw x6, 464(x2)
     .word 0x006a8ab3  # add x21, x21, x6
-    .word 0x1d812303  # lw x6, 472(x2)
+    .word 0x1d412303  # lw x6, 468(x2)
     .word 0x006b0b33  # add x22, x22, x6
-    .word 0x1dc12303  # lw x6, 476(x2)
+    .word 0x1d812303  # lw x6, 472(x2)
     .word 0x006b8bb3  # add x23, x23, x6
-    .word 0x1e012303  # lw x6, 480(x2)
+    .word 0x1dc12303  # lw x6, 476(x2)
     .word 0x006c0c33  # add x24, x24, x6
-    .word 0x1e412303  # lw x6, 484(x2)
+    .word 0x1e012303  # lw x6, 480(x2)
     .word 0x006c8cb3  # add x25, x25, x6
-    .word 0x15c12283  # lw x5, 348(x2)
+    .word 0x15812283  # lw x5, 344(x2)
     .word 0x00629d13  # slli x26, x5, 6
     .word 0x002d0db3  # add x27, x26, x2
     .word 0x040d0293  # addi x5, x26, 64
-    .word 0x15812303  # lw x6, 344(x2)
+    .word 0x15412303  # lw x6, 340(x2)
     .word 0x3c536463  # bltu x6, x5, 968
     .word 0x030dc283  # lbu x5, 48(x27)
     .word 0x00a2c2b3  # xor x5, x5, x10
@@ -717,7 +613,7 @@ chacha20_blocks:
     .word 0x0062c2b3  # xor x5, x5, x6
     .word 0x065d87a3  # sb x5, 111(x27)
     .word 0x0e00006f  # jal x0, 224
-    .word 0x16400313  # addi x6, x0, 356
+    .word 0x16000313  # addi x6, x0, 352
     .word 0x00230333  # add x6, x6, x2
     .word 0x04000393  # addi x7, x0, 64
     .word 0x006383b3  # add x7, x7, x6
@@ -727,44 +623,44 @@ chacha20_blocks:
     .word 0x00032023  # sw x0, 0(x6)
     .word 0x00430313  # addi x6, x6, 4
     .word 0xfedff06f  # jal x0, -20
-    .word 0x16a12223  # sw x10, 356(x2)
-    .word 0x16b12423  # sw x11, 360(x2)
-    .word 0x16c12623  # sw x12, 364(x2)
-    .word 0x16d12823  # sw x13, 368(x2)
-    .word 0x16e12a23  # sw x14, 372(x2)
-    .word 0x16f12c23  # sw x15, 376(x2)
-    .word 0x17012e23  # sw x16, 380(x2)
-    .word 0x19112023  # sw x17, 384(x2)
-    .word 0x19212223  # sw x18, 388(x2)
-    .word 0x19312423  # sw x19, 392(x2)
-    .word 0x19412623  # sw x20, 396(x2)
-    .word 0x19512823  # sw x21, 400(x2)
-    .word 0x19612a23  # sw x22, 404(x2)
-    .word 0x19712c23  # sw x23, 408(x2)
-    .word 0x19812e23  # sw x24, 412(x2)
-    .word 0x1b912023  # sw x25, 416(x2)
-    .word 0x1fa12a23  # sw x26, 500(x2)
-    .word 0x15812283  # lw x5, 344(x2)
-    .word 0x1e512c23  # sw x5, 504(x2)
-    .word 0x1f412303  # lw x6, 500(x2)
-    .word 0x1f812283  # lw x5, 504(x2)
+    .word 0x16a12023  # sw x10, 352(x2)
+    .word 0x16b12223  # sw x11, 356(x2)
+    .word 0x16c12423  # sw x12, 360(x2)
+    .word 0x16d12623  # sw x13, 364(x2)
+    .word 0x16e12823  # sw x14, 368(x2)
+    .word 0x16f12a23  # sw x15, 372(x2)
+    .word 0x17012c23  # sw x16, 376(x2)
+    .word 0x17112e23  # sw x17, 380(x2)
+    .word 0x19212023  # sw x18, 384(x2)
+    .word 0x19312223  # sw x19, 388(x2)
+    .word 0x19412423  # sw x20, 392(x2)
+    .word 0x19512623  # sw x21, 396(x2)
+    .word 0x19612823  # sw x22, 400(x2)
+    .word 0x19712a23  # sw x23, 404(x2)
+    .word 0x19812c23  # sw x24, 408(x2)
+    .word 0x19912e23  # sw x25, 412(x2)
+    .word 0x1fa12823  # sw x26, 496(x2)
+    .word 0x15412283  # lw x5, 340(x2)
+    .word 0x1e512a23  # sw x5, 500(x2)
+    .word 0x1f012303  # lw x6, 496(x2)
+    .word 0x1f412283  # lw x5, 500(x2)
     .word 0x005332b3  # sltu x5, x6, x5
     .word 0x00029463  # bne x5, x0, 8
     .word 0x0580006f  # jal x0, 88
-    .word 0x1a612223  # sw x6, 420(x2)
+    .word 0x1a612023  # sw x6, 416(x2)
     .word 0x00130313  # addi x6, x6, 1
-    .word 0x1e612a23  # sw x6, 500(x2)
-    .word 0x1a412283  # lw x5, 420(x2)
-    .word 0x1a412303  # lw x6, 420(x2)
+    .word 0x1e612823  # sw x6, 496(x2)
+    .word 0x1a012283  # lw x5, 416(x2)
+    .word 0x1a012303  # lw x6, 416(x2)
     .word 0x00230333  # add x6, x6, x2
     .word 0x03034303  # lbu x6, 48(x6)
-    .word 0x1a412383  # lw x7, 420(x2)
+    .word 0x1a012383  # lw x7, 416(x2)
     .word 0x03f3f393  # andi x7, x7, 63
     .word 0x0023d393  # srli x7, x7, 2
     .word 0x00239393  # slli x7, x7, 2
     .word 0x002383b3  # add x7, x7, x2
-    .word 0x1643a383  # lw x7, 356(x7)
-    .word 0x1a412403  # lw x8, 420(x2)
+    .word 0x1603a383  # lw x7, 352(x7)
+    .word 0x1a012403  # lw x8, 416(x2)
     .word 0x00347413  # andi x8, x8, 3
     .word 0x00341413  # slli x8, x8, 3
     .word 0x0083d3b3  # srl x7, x7, x8

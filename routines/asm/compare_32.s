@@ -1,4 +1,4 @@
-# compare_32: made by factc 1.0.0 function; 119 words, 80 bytes of stack, profile 1
+# compare_32: made by factc 1.0.0 function; 118 words, 80 bytes of stack, profile 1
     .option push
     .option norvc
     .option norelax
@@ -20,21 +20,22 @@ compare_32:
     .word 0x00050293  # addi x5, x10, 0
     .word 0x00010313  # addi x6, x2, 0
     .word 0x02028393  # addi x7, x5, 32
-    .word 0x17800f6f  # jal x30, 376
+    .word 0x17400f6f  # jal x30, 372
     # parameter 1: an array
     .word 0x00058293  # addi x5, x11, 0
     .word 0x02010313  # addi x6, x2, 32
     .word 0x02028393  # addi x7, x5, 32
-    .word 0x16800f6f  # jal x30, 360
+    .word 0x16400f6f  # jal x30, 356
     # the body
-    .word 0x00000613  # addi x12, x0, 0
+    .word 0x00000693  # addi x13, x0, 0
     .word 0x00000513  # addi x10, x0, 0
     .word 0x00000593  # addi x11, x0, 0
-    .word 0x00000613  # addi x12, x0, 0
+    .word 0xfff00693  # addi x13, x0, -1
+    .word 0x00168693  # addi x13, x13, 1
     .word 0x01800293  # addi x5, x0, 24
-    .word 0x00361313  # slli x6, x12, 3
-    .word 0x406286b3  # sub x13, x5, x6
-    .word 0x002687b3  # add x15, x13, x2
+    .word 0x00369313  # slli x6, x13, 3
+    .word 0x40628633  # sub x12, x5, x6
+    .word 0x002607b3  # add x15, x12, x2
     .word 0x0077c283  # lbu x5, 7(x15)
     .word 0x0277c303  # lbu x6, 39(x15)
     .word 0x406282b3  # sub x5, x5, x6
@@ -83,10 +84,8 @@ compare_32:
     .word 0x40a28733  # sub x14, x5, x10
     .word 0x01f75513  # srli x10, x14, 31
     .word 0x00e5e5b3  # or x11, x11, x14
-    .word 0x00160613  # addi x12, x12, 1
-    .word 0x00463293  # sltiu x5, x12, 4
+    .word 0xffd68293  # addi x5, x13, -3
     .word 0xf20294e3  # bne x5, x0, -216
-    .word 0xfff60613  # addi x12, x12, -1
     .word 0x00b03733  # sltu x14, x0, x11
     .word 0x00e702b3  # add x5, x14, x14
     .word 0x40a282b3  # sub x5, x5, x10

@@ -1,4 +1,4 @@
-# copy_if_32: made by factc 1.0.0 function; 98 words, 96 bytes of stack, profile 1
+# copy_if_32: made by factc 1.0.0 function; 97 words, 96 bytes of stack, profile 1
     .option push
     .option norvc
     .option norelax
@@ -27,17 +27,18 @@ copy_if_32:
     .word 0x00058293  # addi x5, x11, 0
     .word 0x00410313  # addi x6, x2, 4
     .word 0x02028393  # addi x7, x5, 32
-    .word 0x10c00f6f  # jal x30, 268
+    .word 0x10800f6f  # jal x30, 264
     # parameter 2: an array
     .word 0x00060293  # addi x5, x12, 0
     .word 0x02410313  # addi x6, x2, 36
     .word 0x02028393  # addi x7, x5, 32
-    .word 0x0fc00f6f  # jal x30, 252
+    .word 0x0f800f6f  # jal x30, 248
     # the body
     .word 0x00012503  # lw x10, 0(x2)
     .word 0x00000613  # addi x12, x0, 0
     .word 0x40a005b3  # sub x11, x0, x10
-    .word 0x00000613  # addi x12, x0, 0
+    .word 0xfff00613  # addi x12, x0, -1
+    .word 0x00160613  # addi x12, x12, 1
     .word 0x00261793  # slli x15, x12, 2
     .word 0x00278833  # add x16, x15, x2
     .word 0x02484683  # lbu x13, 36(x16)
@@ -64,10 +65,8 @@ copy_if_32:
     .word 0x00b2f733  # and x14, x5, x11
     .word 0x00e6c2b3  # xor x5, x13, x14
     .word 0x025803a3  # sb x5, 39(x16)
-    .word 0x00160613  # addi x12, x12, 1
-    .word 0x00863293  # sltiu x5, x12, 8
+    .word 0xff960293  # addi x5, x12, -7
     .word 0xf80298e3  # bne x5, x0, -112
-    .word 0xfff60613  # addi x12, x12, -1
     # the result
     .word 0x00000513  # addi x10, x0, 0
     # parameter 2: the array, back

@@ -1,4 +1,4 @@
-# crc32: made by factc 1.0.0 function; 109 words, 96 bytes of stack, profile 1
+# crc32: made by factc 1.0.0 function; 108 words, 96 bytes of stack, profile 1
     .option push
     .option norvc
     .option norelax
@@ -22,7 +22,7 @@ crc32:
     .word 0x00058293  # addi x5, x11, 0
     .word 0x00410313  # addi x6, x2, 4
     .word 0x04028393  # addi x7, x5, 64
-    .word 0x14c00f6f  # jal x30, 332
+    .word 0x14800f6f  # jal x30, 328
     # parameter 2: a word
     .word 0x04c12223  # sw x12, 68(x2)
     # the body
@@ -32,7 +32,8 @@ crc32:
     .word 0xfff54613  # xori x12, x10, -1
     .word 0xedb886b7  # lui x13, 0xedb88
     .word 0x32068693  # addi x13, x13, 800
-    .word 0x00000713  # addi x14, x0, 0
+    .word 0xfff00713  # addi x14, x0, -1
+    .word 0x00170713  # addi x14, x14, 1
     .word 0x0ab77863  # bgeu x14, x11, 176
     .word 0x00270333  # add x6, x14, x2
     .word 0x00434303  # lbu x6, 4(x6)
@@ -77,10 +78,8 @@ crc32:
     .word 0x407003b3  # sub x7, x0, x7
     .word 0x0076f333  # and x6, x13, x7
     .word 0x0062c633  # xor x12, x5, x6
-    .word 0x00170713  # addi x14, x14, 1
-    .word 0x04073293  # sltiu x5, x14, 64
+    .word 0xfc170293  # addi x5, x14, -63
     .word 0xf40294e3  # bne x5, x0, -184
-    .word 0xfff70713  # addi x14, x14, -1
     .word 0xfff64293  # xori x5, x12, -1
     .word 0x04512423  # sw x5, 72(x2)
     # the result

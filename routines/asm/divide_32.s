@@ -1,4 +1,4 @@
-# divide_32: made by factc 1.0.0 function; 60 words, 48 bytes of stack, profile 1
+# divide_32: made by factc 1.0.0 function; 59 words, 48 bytes of stack, profile 1
     .option push
     .option norvc
     .option norelax
@@ -30,7 +30,8 @@ divide_32:
     .word 0x00000713  # addi x14, x0, 0
     .word 0x00000613  # addi x12, x0, 0
     .word 0x00050693  # addi x13, x10, 0
-    .word 0x00000713  # addi x14, x0, 0
+    .word 0xfff00713  # addi x14, x0, -1
+    .word 0x00170713  # addi x14, x14, 1
     .word 0x01f65813  # srli x16, x12, 31
     .word 0x00161293  # slli x5, x12, 1
     .word 0x01f6d313  # srli x6, x13, 31
@@ -42,10 +43,8 @@ divide_32:
     .word 0x40660633  # sub x12, x12, x6
     .word 0x00169293  # slli x5, x13, 1
     .word 0x410286b3  # sub x13, x5, x16
-    .word 0x00170713  # addi x14, x14, 1
-    .word 0x02073293  # sltiu x5, x14, 32
+    .word 0xfe170293  # addi x5, x14, -31
     .word 0xfc0296e3  # bne x5, x0, -52
-    .word 0xfff70713  # addi x14, x14, -1
     .word 0x00d12423  # sw x13, 8(x2)
     .word 0x00c12623  # sw x12, 12(x2)
     # the result

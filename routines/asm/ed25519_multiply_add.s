@@ -1,4 +1,4 @@
-# ed25519_multiply_add: made by factc 1.0.0 function; 1376 words, 320 bytes of stack, profile 1
+# ed25519_multiply_add: made by factc 1.0.0 function; 1160 words, 320 bytes of stack, profile 1
     .option push
     .option norvc
     .option norelax
@@ -47,17 +47,17 @@ ed25519_multiply_add:
     .word 0x00050293  # addi x5, x10, 0
     .word 0x00010313  # addi x6, x2, 0
     .word 0x02028393  # addi x7, x5, 32
-    .word 0x4dc01f6f  # jal x30, 5340
+    .word 0x17c01f6f  # jal x30, 4476
     # parameter 1: an array
     .word 0x00058293  # addi x5, x11, 0
     .word 0x02010313  # addi x6, x2, 32
     .word 0x02028393  # addi x7, x5, 32
-    .word 0x4cc01f6f  # jal x30, 5324
+    .word 0x16c01f6f  # jal x30, 4460
     # parameter 2: an array
     .word 0x00060293  # addi x5, x12, 0
     .word 0x04010313  # addi x6, x2, 64
     .word 0x02028393  # addi x7, x5, 32
-    .word 0x4bc01f6f  # jal x30, 5308
+    .word 0x15c01f6f  # jal x30, 4444
     # the body
     .word 0x5cf5dcb7  # lui x25, 0x5cf5d
     .word 0x3edc8c93  # addi x25, x25, 1005
@@ -85,174 +85,30 @@ ed25519_multiply_add:
     .word 0x0a012823  # sw x0, 176(x2)
     .word 0x0a012a23  # sw x0, 180(x2)
     .word 0x0a012c23  # sw x0, 184(x2)
-    .word 0x00014283  # lbu x5, 0(x2)
-    .word 0x00114303  # lbu x6, 1(x2)
-    .word 0x00831313  # slli x6, x6, 8
-    .word 0x0062e533  # or x10, x5, x6
-    .word 0x00214303  # lbu x6, 2(x2)
-    .word 0x01031313  # slli x6, x6, 16
-    .word 0x006562b3  # or x5, x10, x6
-    .word 0x00314303  # lbu x6, 3(x2)
-    .word 0x01831313  # slli x6, x6, 24
-    .word 0x0062e2b3  # or x5, x5, x6
+    .word 0x00012283  # lw x5, 0(x2)
     .word 0x08512023  # sw x5, 128(x2)
-    .word 0x02014283  # lbu x5, 32(x2)
-    .word 0x02114303  # lbu x6, 33(x2)
-    .word 0x00831313  # slli x6, x6, 8
-    .word 0x0062e533  # or x10, x5, x6
-    .word 0x02214303  # lbu x6, 34(x2)
-    .word 0x01031313  # slli x6, x6, 16
-    .word 0x006562b3  # or x5, x10, x6
-    .word 0x02314303  # lbu x6, 35(x2)
-    .word 0x01831313  # slli x6, x6, 24
-    .word 0x0062e8b3  # or x17, x5, x6
-    .word 0x00414283  # lbu x5, 4(x2)
-    .word 0x00514303  # lbu x6, 5(x2)
-    .word 0x00831313  # slli x6, x6, 8
-    .word 0x0062e533  # or x10, x5, x6
-    .word 0x00614303  # lbu x6, 6(x2)
-    .word 0x01031313  # slli x6, x6, 16
-    .word 0x006562b3  # or x5, x10, x6
-    .word 0x00714303  # lbu x6, 7(x2)
-    .word 0x01831313  # slli x6, x6, 24
-    .word 0x0062e2b3  # or x5, x5, x6
+    .word 0x02012883  # lw x17, 32(x2)
+    .word 0x00412283  # lw x5, 4(x2)
     .word 0x08512223  # sw x5, 132(x2)
-    .word 0x02414283  # lbu x5, 36(x2)
-    .word 0x02514303  # lbu x6, 37(x2)
-    .word 0x00831313  # slli x6, x6, 8
-    .word 0x0062e533  # or x10, x5, x6
-    .word 0x02614303  # lbu x6, 38(x2)
-    .word 0x01031313  # slli x6, x6, 16
-    .word 0x006562b3  # or x5, x10, x6
-    .word 0x02714303  # lbu x6, 39(x2)
-    .word 0x01831313  # slli x6, x6, 24
-    .word 0x0062e933  # or x18, x5, x6
-    .word 0x00814283  # lbu x5, 8(x2)
-    .word 0x00914303  # lbu x6, 9(x2)
-    .word 0x00831313  # slli x6, x6, 8
-    .word 0x0062e533  # or x10, x5, x6
-    .word 0x00a14303  # lbu x6, 10(x2)
-    .word 0x01031313  # slli x6, x6, 16
-    .word 0x006562b3  # or x5, x10, x6
-    .word 0x00b14303  # lbu x6, 11(x2)
-    .word 0x01831313  # slli x6, x6, 24
-    .word 0x0062e2b3  # or x5, x5, x6
+    .word 0x02412903  # lw x18, 36(x2)
+    .word 0x00812283  # lw x5, 8(x2)
     .word 0x08512423  # sw x5, 136(x2)
-    .word 0x02814283  # lbu x5, 40(x2)
-    .word 0x02914303  # lbu x6, 41(x2)
-    .word 0x00831313  # slli x6, x6, 8
-    .word 0x0062e533  # or x10, x5, x6
-    .word 0x02a14303  # lbu x6, 42(x2)
-    .word 0x01031313  # slli x6, x6, 16
-    .word 0x006562b3  # or x5, x10, x6
-    .word 0x02b14303  # lbu x6, 43(x2)
-    .word 0x01831313  # slli x6, x6, 24
-    .word 0x0062e9b3  # or x19, x5, x6
-    .word 0x00c14283  # lbu x5, 12(x2)
-    .word 0x00d14303  # lbu x6, 13(x2)
-    .word 0x00831313  # slli x6, x6, 8
-    .word 0x0062e533  # or x10, x5, x6
-    .word 0x00e14303  # lbu x6, 14(x2)
-    .word 0x01031313  # slli x6, x6, 16
-    .word 0x006562b3  # or x5, x10, x6
-    .word 0x00f14303  # lbu x6, 15(x2)
-    .word 0x01831313  # slli x6, x6, 24
-    .word 0x0062e2b3  # or x5, x5, x6
+    .word 0x02812983  # lw x19, 40(x2)
+    .word 0x00c12283  # lw x5, 12(x2)
     .word 0x08512623  # sw x5, 140(x2)
-    .word 0x02c14283  # lbu x5, 44(x2)
-    .word 0x02d14303  # lbu x6, 45(x2)
-    .word 0x00831313  # slli x6, x6, 8
-    .word 0x0062e533  # or x10, x5, x6
-    .word 0x02e14303  # lbu x6, 46(x2)
-    .word 0x01031313  # slli x6, x6, 16
-    .word 0x006562b3  # or x5, x10, x6
-    .word 0x02f14303  # lbu x6, 47(x2)
-    .word 0x01831313  # slli x6, x6, 24
-    .word 0x0062ea33  # or x20, x5, x6
-    .word 0x01014283  # lbu x5, 16(x2)
-    .word 0x01114303  # lbu x6, 17(x2)
-    .word 0x00831313  # slli x6, x6, 8
-    .word 0x0062e533  # or x10, x5, x6
-    .word 0x01214303  # lbu x6, 18(x2)
-    .word 0x01031313  # slli x6, x6, 16
-    .word 0x006562b3  # or x5, x10, x6
-    .word 0x01314303  # lbu x6, 19(x2)
-    .word 0x01831313  # slli x6, x6, 24
-    .word 0x0062e2b3  # or x5, x5, x6
+    .word 0x02c12a03  # lw x20, 44(x2)
+    .word 0x01012283  # lw x5, 16(x2)
     .word 0x08512823  # sw x5, 144(x2)
-    .word 0x03014283  # lbu x5, 48(x2)
-    .word 0x03114303  # lbu x6, 49(x2)
-    .word 0x00831313  # slli x6, x6, 8
-    .word 0x0062e533  # or x10, x5, x6
-    .word 0x03214303  # lbu x6, 50(x2)
-    .word 0x01031313  # slli x6, x6, 16
-    .word 0x006562b3  # or x5, x10, x6
-    .word 0x03314303  # lbu x6, 51(x2)
-    .word 0x01831313  # slli x6, x6, 24
-    .word 0x0062eab3  # or x21, x5, x6
-    .word 0x01414283  # lbu x5, 20(x2)
-    .word 0x01514303  # lbu x6, 21(x2)
-    .word 0x00831313  # slli x6, x6, 8
-    .word 0x0062e533  # or x10, x5, x6
-    .word 0x01614303  # lbu x6, 22(x2)
-    .word 0x01031313  # slli x6, x6, 16
-    .word 0x006562b3  # or x5, x10, x6
-    .word 0x01714303  # lbu x6, 23(x2)
-    .word 0x01831313  # slli x6, x6, 24
-    .word 0x0062e2b3  # or x5, x5, x6
+    .word 0x03012a83  # lw x21, 48(x2)
+    .word 0x01412283  # lw x5, 20(x2)
     .word 0x08512a23  # sw x5, 148(x2)
-    .word 0x03414283  # lbu x5, 52(x2)
-    .word 0x03514303  # lbu x6, 53(x2)
-    .word 0x00831313  # slli x6, x6, 8
-    .word 0x0062e533  # or x10, x5, x6
-    .word 0x03614303  # lbu x6, 54(x2)
-    .word 0x01031313  # slli x6, x6, 16
-    .word 0x006562b3  # or x5, x10, x6
-    .word 0x03714303  # lbu x6, 55(x2)
-    .word 0x01831313  # slli x6, x6, 24
-    .word 0x0062eb33  # or x22, x5, x6
-    .word 0x01814283  # lbu x5, 24(x2)
-    .word 0x01914303  # lbu x6, 25(x2)
-    .word 0x00831313  # slli x6, x6, 8
-    .word 0x0062e533  # or x10, x5, x6
-    .word 0x01a14303  # lbu x6, 26(x2)
-    .word 0x01031313  # slli x6, x6, 16
-    .word 0x006562b3  # or x5, x10, x6
-    .word 0x01b14303  # lbu x6, 27(x2)
-    .word 0x01831313  # slli x6, x6, 24
-    .word 0x0062e2b3  # or x5, x5, x6
+    .word 0x03412b03  # lw x22, 52(x2)
+    .word 0x01812283  # lw x5, 24(x2)
     .word 0x08512c23  # sw x5, 152(x2)
-    .word 0x03814283  # lbu x5, 56(x2)
-    .word 0x03914303  # lbu x6, 57(x2)
-    .word 0x00831313  # slli x6, x6, 8
-    .word 0x0062e533  # or x10, x5, x6
-    .word 0x03a14303  # lbu x6, 58(x2)
-    .word 0x01031313  # slli x6, x6, 16
-    .word 0x006562b3  # or x5, x10, x6
-    .word 0x03b14303  # lbu x6, 59(x2)
-    .word 0x01831313  # slli x6, x6, 24
-    .word 0x0062ebb3  # or x23, x5, x6
-    .word 0x01c14283  # lbu x5, 28(x2)
-    .word 0x01d14303  # lbu x6, 29(x2)
-    .word 0x00831313  # slli x6, x6, 8
-    .word 0x0062e533  # or x10, x5, x6
-    .word 0x01e14303  # lbu x6, 30(x2)
-    .word 0x01031313  # slli x6, x6, 16
-    .word 0x006562b3  # or x5, x10, x6
-    .word 0x01f14303  # lbu x6, 31(x2)
-    .word 0x01831313  # slli x6, x6, 24
-    .word 0x0062e2b3  # or x5, x5, x6
+    .word 0x03812b83  # lw x23, 56(x2)
+    .word 0x01c12283  # lw x5, 28(x2)
     .word 0x08512e23  # sw x5, 156(x2)
-    .word 0x03c14283  # lbu x5, 60(x2)
-    .word 0x03d14303  # lbu x6, 61(x2)
-    .word 0x00831313  # slli x6, x6, 8
-    .word 0x0062e533  # or x10, x5, x6
-    .word 0x03e14303  # lbu x6, 62(x2)
-    .word 0x01031313  # slli x6, x6, 16
-    .word 0x006562b3  # or x5, x10, x6
-    .word 0x03f14303  # lbu x6, 63(x2)
-    .word 0x01831313  # slli x6, x6, 24
-    .word 0x0062ec33  # or x24, x5, x6
+    .word 0x03c12c03  # lw x24, 60(x2)
     .word 0x0e012823  # sw x0, 240(x2)
     .word 0x00800293  # addi x5, x0, 8
     .word 0x0e512a23  # sw x5, 244(x2)
@@ -351,30 +207,12 @@ ed25519_multiply_add:
     .word 0x006285b3  # add x11, x5, x6
     .word 0x0ab12c23  # sw x11, 184(x2)
     .word 0xe89ff06f  # jal x0, -376
-    .word 0x04014283  # lbu x5, 64(x2)
-    .word 0x04114303  # lbu x6, 65(x2)
-    .word 0x00831313  # slli x6, x6, 8
-    .word 0x0062e5b3  # or x11, x5, x6
-    .word 0x04214303  # lbu x6, 66(x2)
-    .word 0x01031313  # slli x6, x6, 16
-    .word 0x0065e2b3  # or x5, x11, x6
-    .word 0x04314303  # lbu x6, 67(x2)
-    .word 0x01831313  # slli x6, x6, 24
-    .word 0x0062e5b3  # or x11, x5, x6
+    .word 0x04012583  # lw x11, 64(x2)
     .word 0x08012283  # lw x5, 128(x2)
     .word 0x00b28633  # add x12, x5, x11
     .word 0x0ac12e23  # sw x12, 188(x2)
     .word 0x00b63533  # sltu x10, x12, x11
-    .word 0x04414283  # lbu x5, 68(x2)
-    .word 0x04514303  # lbu x6, 69(x2)
-    .word 0x00831313  # slli x6, x6, 8
-    .word 0x0062e5b3  # or x11, x5, x6
-    .word 0x04614303  # lbu x6, 70(x2)
-    .word 0x01031313  # slli x6, x6, 16
-    .word 0x0065e2b3  # or x5, x11, x6
-    .word 0x04714303  # lbu x6, 71(x2)
-    .word 0x01831313  # slli x6, x6, 24
-    .word 0x0062e5b3  # or x11, x5, x6
+    .word 0x04412583  # lw x11, 68(x2)
     .word 0x08412283  # lw x5, 132(x2)
     .word 0x00b28633  # add x12, x5, x11
     .word 0x00a602b3  # add x5, x12, x10
@@ -383,16 +221,7 @@ ed25519_multiply_add:
     .word 0x0c012303  # lw x6, 192(x2)
     .word 0x00a33333  # sltu x6, x6, x10
     .word 0x00628533  # add x10, x5, x6
-    .word 0x04814283  # lbu x5, 72(x2)
-    .word 0x04914303  # lbu x6, 73(x2)
-    .word 0x00831313  # slli x6, x6, 8
-    .word 0x0062e5b3  # or x11, x5, x6
-    .word 0x04a14303  # lbu x6, 74(x2)
-    .word 0x01031313  # slli x6, x6, 16
-    .word 0x0065e2b3  # or x5, x11, x6
-    .word 0x04b14303  # lbu x6, 75(x2)
-    .word 0x01831313  # slli x6, x6, 24
-    .word 0x0062e5b3  # or x11, x5, x6
+    .word 0x04812583  # lw x11, 72(x2)
     .word 0x08812283  # lw x5, 136(x2)
     .word 0x00b28633  # add x12, x5, x11
     .word 0x00a602b3  # add x5, x12, x10
@@ -401,16 +230,7 @@ ed25519_multiply_add:
     .word 0x0c412303  # lw x6, 196(x2)
     .word 0x00a33333  # sltu x6, x6, x10
     .word 0x00628533  # add x10, x5, x6
-    .word 0x04c14283  # lbu x5, 76(x2)
-    .word 0x04d14303  # lbu x6, 77(x2)
-    .word 0x00831313  # slli x6, x6, 8
-    .word 0x0062e5b3  # or x11, x5, x6
-    .word 0x04e14303  # lbu x6, 78(x2)
-    .word 0x01031313  # slli x6, x6, 16
-    .word 0x0065e2b3  # or x5, x11, x6
-    .word 0x04f14303  # lbu x6, 79(x2)
-    .word 0x01831313  # slli x6, x6, 24
-    .word 0x0062e5b3  # or x11, x5, x6
+    .word 0x04c12583  # lw x11, 76(x2)
     .word 0x08c12283  # lw x5, 140(x2)
     .word 0x00b28633  # add x12, x5, x11
     .word 0x00a602b3  # add x5, x12, x10
@@ -419,16 +239,7 @@ ed25519_multiply_add:
     .word 0x0c812303  # lw x6, 200(x2)
     .word 0x00a33333  # sltu x6, x6, x10
     .word 0x00628533  # add x10, x5, x6
-    .word 0x05014283  # lbu x5, 80(x2)
-    .word 0x05114303  # lbu x6, 81(x2)
-    .word 0x00831313  # slli x6, x6, 8
-    .word 0x0062e5b3  # or x11, x5, x6
-    .word 0x05214303  # lbu x6, 82(x2)
-    .word 0x01031313  # slli x6, x6, 16
-    .word 0x0065e2b3  # or x5, x11, x6
-    .word 0x05314303  # lbu x6, 83(x2)
-    .word 0x01831313  # slli x6, x6, 24
-    .word 0x0062e5b3  # or x11, x5, x6
+    .word 0x05012583  # lw x11, 80(x2)
     .word 0x09012283  # lw x5, 144(x2)
     .word 0x00b28633  # add x12, x5, x11
     .word 0x00a602b3  # add x5, x12, x10
@@ -437,16 +248,7 @@ ed25519_multiply_add:
     .word 0x0cc12303  # lw x6, 204(x2)
     .word 0x00a33333  # sltu x6, x6, x10
     .word 0x00628533  # add x10, x5, x6
-    .word 0x05414283  # lbu x5, 84(x2)
-    .word 0x05514303  # lbu x6, 85(x2)
-    .word 0x00831313  # slli x6, x6, 8
-    .word 0x0062e5b3  # or x11, x5, x6
-    .word 0x05614303  # lbu x6, 86(x2)
-    .word 0x01031313  # slli x6, x6, 16
-    .word 0x0065e2b3  # or x5, x11, x6
-    .word 0x05714303  # lbu x6, 87(x2)
-    .word 0x01831313  # slli x6, x6, 24
-    .word 0x0062e5b3  # or x11, x5, x6
+    .word 0x05412583  # lw x11, 84(x2)
     .word 0x09412283  # lw x5, 148(x2)
     .word 0x00b28633  # add x12, x5, x11
     .word 0x00a602b3  # add x5, x12, x10
@@ -455,16 +257,7 @@ ed25519_multiply_add:
     .word 0x0d012303  # lw x6, 208(x2)
     .word 0x00a33333  # sltu x6, x6, x10
     .word 0x00628533  # add x10, x5, x6
-    .word 0x05814283  # lbu x5, 88(x2)
-    .word 0x05914303  # lbu x6, 89(x2)
-    .word 0x00831313  # slli x6, x6, 8
-    .word 0x0062e5b3  # or x11, x5, x6
-    .word 0x05a14303  # lbu x6, 90(x2)
-    .word 0x01031313  # slli x6, x6, 16
-    .word 0x0065e2b3  # or x5, x11, x6
-    .word 0x05b14303  # lbu x6, 91(x2)
-    .word 0x01831313  # slli x6, x6, 24
-    .word 0x0062e5b3  # or x11, x5, x6
+    .word 0x05812583  # lw x11, 88(x2)
     .word 0x09812283  # lw x5, 152(x2)
     .word 0x00b28633  # add x12, x5, x11
     .word 0x00a602b3  # add x5, x12, x10
@@ -473,16 +266,7 @@ ed25519_multiply_add:
     .word 0x0d412303  # lw x6, 212(x2)
     .word 0x00a33333  # sltu x6, x6, x10
     .word 0x00628533  # add x10, x5, x6
-    .word 0x05c14283  # lbu x5, 92(x2)
-    .word 0x05d14303  # lbu x6, 93(x2)
-    .word 0x00831313  # slli x6, x6, 8
-    .word 0x0062e5b3  # or x11, x5, x6
-    .word 0x05e14303  # lbu x6, 94(x2)
-    .word 0x01031313  # slli x6, x6, 16
-    .word 0x0065e2b3  # or x5, x11, x6
-    .word 0x05f14303  # lbu x6, 95(x2)
-    .word 0x01831313  # slli x6, x6, 24
-    .word 0x0062e5b3  # or x11, x5, x6
+    .word 0x05c12583  # lw x11, 92(x2)
     .word 0x09c12283  # lw x5, 156(x2)
     .word 0x00b28633  # add x12, x5, x11
     .word 0x00a602b3  # add x5, x12, x10

@@ -1,4 +1,4 @@
-# ed25519_reduce: made by factc 1.0.0 function; 1084 words, 240 bytes of stack, profile 1
+# ed25519_reduce: made by factc 1.0.0 function; 940 words, 240 bytes of stack, profile 1
     .option push
     .option norvc
     .option norelax
@@ -47,7 +47,7 @@ ed25519_reduce:
     .word 0x00050293  # addi x5, x10, 0
     .word 0x00010313  # addi x6, x2, 0
     .word 0x04028393  # addi x7, x5, 64
-    .word 0x05001f6f  # jal x30, 4176
+    .word 0x61100f6f  # jal x30, 3600
     # the body
     .word 0x5cf5dd37  # lui x26, 0x5cf5d
     .word 0x3edd0d13  # addi x26, x26, 1005
@@ -57,198 +57,54 @@ ed25519_reduce:
     .word 0xcd640413  # addi x8, x8, -810
     .word 0x14df04b7  # lui x9, 0x14df0
     .word 0x9de48493  # addi x9, x9, -1570
-    .word 0x00014283  # lbu x5, 0(x2)
-    .word 0x00114303  # lbu x6, 1(x2)
-    .word 0x00831313  # slli x6, x6, 8
-    .word 0x0062e733  # or x14, x5, x6
-    .word 0x00214303  # lbu x6, 2(x2)
-    .word 0x01031313  # slli x6, x6, 16
-    .word 0x006762b3  # or x5, x14, x6
-    .word 0x00314303  # lbu x6, 3(x2)
-    .word 0x01831313  # slli x6, x6, 24
-    .word 0x0062e7b3  # or x15, x5, x6
-    .word 0x00414283  # lbu x5, 4(x2)
-    .word 0x00514303  # lbu x6, 5(x2)
-    .word 0x00831313  # slli x6, x6, 8
-    .word 0x0062e733  # or x14, x5, x6
-    .word 0x00614303  # lbu x6, 6(x2)
-    .word 0x01031313  # slli x6, x6, 16
-    .word 0x006762b3  # or x5, x14, x6
-    .word 0x00714303  # lbu x6, 7(x2)
-    .word 0x01831313  # slli x6, x6, 24
-    .word 0x0062e833  # or x16, x5, x6
-    .word 0x00814283  # lbu x5, 8(x2)
-    .word 0x00914303  # lbu x6, 9(x2)
-    .word 0x00831313  # slli x6, x6, 8
-    .word 0x0062e733  # or x14, x5, x6
-    .word 0x00a14303  # lbu x6, 10(x2)
-    .word 0x01031313  # slli x6, x6, 16
-    .word 0x006762b3  # or x5, x14, x6
-    .word 0x00b14303  # lbu x6, 11(x2)
-    .word 0x01831313  # slli x6, x6, 24
-    .word 0x0062e2b3  # or x5, x5, x6
+    .word 0x00012783  # lw x15, 0(x2)
+    .word 0x00412803  # lw x16, 4(x2)
+    .word 0x00812283  # lw x5, 8(x2)
     .word 0x06512023  # sw x5, 96(x2)
-    .word 0x00c14283  # lbu x5, 12(x2)
-    .word 0x00d14303  # lbu x6, 13(x2)
-    .word 0x00831313  # slli x6, x6, 8
-    .word 0x0062e733  # or x14, x5, x6
-    .word 0x00e14303  # lbu x6, 14(x2)
-    .word 0x01031313  # slli x6, x6, 16
-    .word 0x006762b3  # or x5, x14, x6
-    .word 0x00f14303  # lbu x6, 15(x2)
-    .word 0x01831313  # slli x6, x6, 24
-    .word 0x0062e2b3  # or x5, x5, x6
+    .word 0x00c12283  # lw x5, 12(x2)
     .word 0x06512223  # sw x5, 100(x2)
-    .word 0x01014283  # lbu x5, 16(x2)
-    .word 0x01114303  # lbu x6, 17(x2)
-    .word 0x00831313  # slli x6, x6, 8
-    .word 0x0062e733  # or x14, x5, x6
-    .word 0x01214303  # lbu x6, 18(x2)
-    .word 0x01031313  # slli x6, x6, 16
-    .word 0x006762b3  # or x5, x14, x6
-    .word 0x01314303  # lbu x6, 19(x2)
-    .word 0x01831313  # slli x6, x6, 24
-    .word 0x0062e2b3  # or x5, x5, x6
+    .word 0x01012283  # lw x5, 16(x2)
     .word 0x06512423  # sw x5, 104(x2)
-    .word 0x01414283  # lbu x5, 20(x2)
-    .word 0x01514303  # lbu x6, 21(x2)
-    .word 0x00831313  # slli x6, x6, 8
-    .word 0x0062e733  # or x14, x5, x6
-    .word 0x01614303  # lbu x6, 22(x2)
-    .word 0x01031313  # slli x6, x6, 16
-    .word 0x006762b3  # or x5, x14, x6
-    .word 0x01714303  # lbu x6, 23(x2)
-    .word 0x01831313  # slli x6, x6, 24
-    .word 0x0062e2b3  # or x5, x5, x6
+    .word 0x01412283  # lw x5, 20(x2)
     .word 0x06512623  # sw x5, 108(x2)
-    .word 0x01814283  # lbu x5, 24(x2)
-    .word 0x01914303  # lbu x6, 25(x2)
-    .word 0x00831313  # slli x6, x6, 8
-    .word 0x0062e733  # or x14, x5, x6
-    .word 0x01a14303  # lbu x6, 26(x2)
-    .word 0x01031313  # slli x6, x6, 16
-    .word 0x006762b3  # or x5, x14, x6
-    .word 0x01b14303  # lbu x6, 27(x2)
-    .word 0x01831313  # slli x6, x6, 24
-    .word 0x0062e2b3  # or x5, x5, x6
+    .word 0x01812283  # lw x5, 24(x2)
     .word 0x06512823  # sw x5, 112(x2)
-    .word 0x01c14283  # lbu x5, 28(x2)
-    .word 0x01d14303  # lbu x6, 29(x2)
-    .word 0x00831313  # slli x6, x6, 8
-    .word 0x0062e733  # or x14, x5, x6
-    .word 0x01e14303  # lbu x6, 30(x2)
-    .word 0x01031313  # slli x6, x6, 16
-    .word 0x006762b3  # or x5, x14, x6
-    .word 0x01f14303  # lbu x6, 31(x2)
-    .word 0x01831313  # slli x6, x6, 24
-    .word 0x0062e2b3  # or x5, x5, x6
+    .word 0x01c12283  # lw x5, 28(x2)
     .word 0x06512a23  # sw x5, 116(x2)
-    .word 0x02014283  # lbu x5, 32(x2)
-    .word 0x02114303  # lbu x6, 33(x2)
-    .word 0x00831313  # slli x6, x6, 8
-    .word 0x0062e733  # or x14, x5, x6
-    .word 0x02214303  # lbu x6, 34(x2)
-    .word 0x01031313  # slli x6, x6, 16
-    .word 0x006762b3  # or x5, x14, x6
-    .word 0x02314303  # lbu x6, 35(x2)
-    .word 0x01831313  # slli x6, x6, 24
-    .word 0x0062e533  # or x10, x5, x6
-    .word 0x02414283  # lbu x5, 36(x2)
-    .word 0x02514303  # lbu x6, 37(x2)
-    .word 0x00831313  # slli x6, x6, 8
-    .word 0x0062e733  # or x14, x5, x6
-    .word 0x02614303  # lbu x6, 38(x2)
-    .word 0x01031313  # slli x6, x6, 16
-    .word 0x006762b3  # or x5, x14, x6
-    .word 0x02714303  # lbu x6, 39(x2)
-    .word 0x01831313  # slli x6, x6, 24
-    .word 0x0062e5b3  # or x11, x5, x6
-    .word 0x02814283  # lbu x5, 40(x2)
-    .word 0x02914303  # lbu x6, 41(x2)
-    .word 0x00831313  # slli x6, x6, 8
-    .word 0x0062e733  # or x14, x5, x6
-    .word 0x02a14303  # lbu x6, 42(x2)
-    .word 0x01031313  # slli x6, x6, 16
-    .word 0x006762b3  # or x5, x14, x6
-    .word 0x02b14303  # lbu x6, 43(x2)
-    .word 0x01831313  # slli x6, x6, 24
-    .word 0x0062e6b3  # or x13, x5, x6
-    .word 0x02c14283  # lbu x5, 44(x2)
-    .word 0x02d14303  # lbu x6, 45(x2)
-    .word 0x00831313  # slli x6, x6, 8
-    .word 0x0062e733  # or x14, x5, x6
-    .word 0x02e14303  # lbu x6, 46(x2)
-    .word 0x01031313  # slli x6, x6, 16
-    .word 0x006762b3  # or x5, x14, x6
-    .word 0x02f14303  # lbu x6, 47(x2)
-    .word 0x01831313  # slli x6, x6, 24
-    .word 0x0062e633  # or x12, x5, x6
-    .word 0x03014283  # lbu x5, 48(x2)
-    .word 0x03114303  # lbu x6, 49(x2)
-    .word 0x00831313  # slli x6, x6, 8
-    .word 0x0062e733  # or x14, x5, x6
-    .word 0x03214303  # lbu x6, 50(x2)
-    .word 0x01031313  # slli x6, x6, 16
-    .word 0x006762b3  # or x5, x14, x6
-    .word 0x03314303  # lbu x6, 51(x2)
-    .word 0x01831313  # slli x6, x6, 24
-    .word 0x0062eb33  # or x22, x5, x6
-    .word 0x03414283  # lbu x5, 52(x2)
-    .word 0x03514303  # lbu x6, 53(x2)
-    .word 0x00831313  # slli x6, x6, 8
-    .word 0x0062e733  # or x14, x5, x6
-    .word 0x03614303  # lbu x6, 54(x2)
-    .word 0x01031313  # slli x6, x6, 16
-    .word 0x006762b3  # or x5, x14, x6
-    .word 0x03714303  # lbu x6, 55(x2)
-    .word 0x01831313  # slli x6, x6, 24
-    .word 0x0062ebb3  # or x23, x5, x6
-    .word 0x03814283  # lbu x5, 56(x2)
-    .word 0x03914303  # lbu x6, 57(x2)
-    .word 0x00831313  # slli x6, x6, 8
-    .word 0x0062e733  # or x14, x5, x6
-    .word 0x03a14303  # lbu x6, 58(x2)
-    .word 0x01031313  # slli x6, x6, 16
-    .word 0x006762b3  # or x5, x14, x6
-    .word 0x03b14303  # lbu x6, 59(x2)
-    .word 0x01831313  # slli x6, x6, 24
-    .word 0x0062ec33  # or x24, x5, x6
-    .word 0x03c14283  # lbu x5, 60(x2)
-    .word 0x03d14303  # lbu x6, 61(x2)
-    .word 0x00831313  # slli x6, x6, 8
-    .word 0x0062e733  # or x14, x5, x6
-    .word 0x03e14303  # lbu x6, 62(x2)
-    .word 0x01031313  # slli x6, x6, 16
-    .word 0x006762b3  # or x5, x14, x6
-    .word 0x03f14303  # lbu x6, 63(x2)
-    .word 0x01831313  # slli x6, x6, 24
-    .word 0x0062e733  # or x14, x5, x6
+    .word 0x02012703  # lw x14, 32(x2)
+    .word 0x02412503  # lw x10, 36(x2)
+    .word 0x02812583  # lw x11, 40(x2)
+    .word 0x02c12683  # lw x13, 44(x2)
+    .word 0x03012603  # lw x12, 48(x2)
+    .word 0x03412b83  # lw x23, 52(x2)
+    .word 0x03812c03  # lw x24, 56(x2)
+    .word 0x03c12c83  # lw x25, 60(x2)
     .word 0x07412283  # lw x5, 116(x2)
     .word 0x01c2d293  # srli x5, x5, 28
-    .word 0x00451313  # slli x6, x10, 4
+    .word 0x00471313  # slli x6, x14, 4
     .word 0x0062e8b3  # or x17, x5, x6
+    .word 0x01c75293  # srli x5, x14, 28
+    .word 0x00451313  # slli x6, x10, 4
+    .word 0x0062e933  # or x18, x5, x6
     .word 0x01c55293  # srli x5, x10, 28
     .word 0x00459313  # slli x6, x11, 4
-    .word 0x0062e933  # or x18, x5, x6
+    .word 0x0062e9b3  # or x19, x5, x6
     .word 0x01c5d293  # srli x5, x11, 28
     .word 0x00469313  # slli x6, x13, 4
-    .word 0x0062e9b3  # or x19, x5, x6
+    .word 0x0062ea33  # or x20, x5, x6
     .word 0x01c6d293  # srli x5, x13, 28
     .word 0x00461313  # slli x6, x12, 4
-    .word 0x0062ea33  # or x20, x5, x6
-    .word 0x01c65293  # srli x5, x12, 28
-    .word 0x004b1313  # slli x6, x22, 4
     .word 0x0062eab3  # or x21, x5, x6
-    .word 0x01cb5293  # srli x5, x22, 28
+    .word 0x01c65293  # srli x5, x12, 28
     .word 0x004b9313  # slli x6, x23, 4
     .word 0x0062eb33  # or x22, x5, x6
     .word 0x01cbd293  # srli x5, x23, 28
     .word 0x004c1313  # slli x6, x24, 4
     .word 0x0062ebb3  # or x23, x5, x6
     .word 0x01cc5293  # srli x5, x24, 28
-    .word 0x00471313  # slli x6, x14, 4
+    .word 0x004c9313  # slli x6, x25, 4
     .word 0x0062ec33  # or x24, x5, x6
-    .word 0x01c75c93  # srli x25, x14, 28
+    .word 0x01ccdc93  # srli x25, x25, 28
     .word 0x03a886b3  # mul x13, x17, x26
     .word 0x03a8b733  # mulhu x14, x17, x26
     .word 0x00d6b333  # sltu x6, x13, x13

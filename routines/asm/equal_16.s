@@ -1,4 +1,4 @@
-# equal_16: made by factc 1.0.0 function; 81 words, 48 bytes of stack, profile 1
+# equal_16: made by factc 1.0.0 function; 80 words, 48 bytes of stack, profile 1
     .option push
     .option norvc
     .option norelax
@@ -20,16 +20,17 @@ equal_16:
     .word 0x00050293  # addi x5, x10, 0
     .word 0x00010313  # addi x6, x2, 0
     .word 0x01028393  # addi x7, x5, 16
-    .word 0x0e000f6f  # jal x30, 224
+    .word 0x0dc00f6f  # jal x30, 220
     # parameter 1: an array
     .word 0x00058293  # addi x5, x11, 0
     .word 0x01010313  # addi x6, x2, 16
     .word 0x01028393  # addi x7, x5, 16
-    .word 0x0d000f6f  # jal x30, 208
+    .word 0x0cc00f6f  # jal x30, 204
     # the body
     .word 0x00000593  # addi x11, x0, 0
     .word 0x00000513  # addi x10, x0, 0
-    .word 0x00000593  # addi x11, x0, 0
+    .word 0xfff00593  # addi x11, x0, -1
+    .word 0x00158593  # addi x11, x11, 1
     .word 0x00259613  # slli x12, x11, 2
     .word 0x002606b3  # add x13, x12, x2
     .word 0x0006c303  # lbu x6, 0(x13)
@@ -48,10 +49,8 @@ equal_16:
     .word 0x0136c383  # lbu x7, 19(x13)
     .word 0x00734333  # xor x6, x6, x7
     .word 0x00656533  # or x10, x10, x6
-    .word 0x00158593  # addi x11, x11, 1
-    .word 0x0045b293  # sltiu x5, x11, 4
+    .word 0xffd58293  # addi x5, x11, -3
     .word 0xfa0298e3  # bne x5, x0, -80
-    .word 0xfff58593  # addi x11, x11, -1
     .word 0x00153293  # sltiu x5, x10, 1
     .word 0x02512023  # sw x5, 32(x2)
     # the result

@@ -1,4 +1,4 @@
-# f25519_multiply: made by factc 1.0.0 function; 386 words, 240 bytes of stack, profile 1
+# f25519_multiply: made by factc 1.0.0 function; 385 words, 240 bytes of stack, profile 1
     .option push
     .option norvc
     .option norelax
@@ -46,14 +46,14 @@ f25519_multiply:
     .word 0x00050293  # addi x5, x10, 0
     .word 0x00010313  # addi x6, x2, 0
     .word 0x02028393  # addi x7, x5, 32
-    .word 0x56800f6f  # jal x30, 1384
+    .word 0x56400f6f  # jal x30, 1380
     # parameter 1: an array
     .word 0x00058293  # addi x5, x11, 0
     .word 0x02010313  # addi x6, x2, 32
     .word 0x02028393  # addi x7, x5, 32
-    .word 0x55800f6f  # jal x30, 1368
+    .word 0x55400f6f  # jal x30, 1364
     # the body
-    .word 0x00000513  # addi x10, x0, 0
+    .word 0x00000613  # addi x12, x0, 0
     .word 0x06000313  # addi x6, x0, 96
     .word 0x00230333  # add x6, x6, x2
     .word 0x02000393  # addi x7, x0, 32
@@ -64,9 +64,9 @@ f25519_multiply:
     .word 0x00032023  # sw x0, 0(x6)
     .word 0x00430313  # addi x6, x6, 4
     .word 0xfedff06f  # jal x0, -20
-    .word 0x00012583  # lw x11, 0(x2)
+    .word 0x00012503  # lw x10, 0(x2)
     .word 0x02012803  # lw x16, 32(x2)
-    .word 0x00412603  # lw x12, 4(x2)
+    .word 0x00412583  # lw x11, 4(x2)
     .word 0x02412883  # lw x17, 36(x2)
     .word 0x00812683  # lw x13, 8(x2)
     .word 0x02812903  # lw x18, 40(x2)
@@ -93,8 +93,8 @@ f25519_multiply:
     .word 0x00000d93  # addi x27, x0, 0
     .word 0x00000493  # addi x9, x0, 0
     .word 0x08012a23  # sw x0, 148(x2)
-    .word 0x06b12023  # sw x11, 96(x2)
-    .word 0x06c12223  # sw x12, 100(x2)
+    .word 0x06a12023  # sw x10, 96(x2)
+    .word 0x06b12223  # sw x11, 100(x2)
     .word 0x06d12423  # sw x13, 104(x2)
     .word 0x06f12623  # sw x15, 108(x2)
     .word 0x06e12823  # sw x14, 112(x2)
@@ -104,199 +104,198 @@ f25519_multiply:
     .word 0x06512c23  # sw x5, 120(x2)
     .word 0x08812283  # lw x5, 136(x2)
     .word 0x06512e23  # sw x5, 124(x2)
-    .word 0x00000513  # addi x10, x0, 0
-    .word 0x00251593  # slli x11, x10, 2
-    .word 0x002585b3  # add x11, x11, x2
-    .word 0x0605a583  # lw x11, 96(x11)
-    .word 0x030586b3  # mul x13, x11, x16
-    .word 0x0305b733  # mulhu x14, x11, x16
+    .word 0xfff00613  # addi x12, x0, -1
+    .word 0x00160613  # addi x12, x12, 1
+    .word 0x00261513  # slli x10, x12, 2
+    .word 0x00250533  # add x10, x10, x2
+    .word 0x06052503  # lw x10, 96(x10)
+    .word 0x030506b3  # mul x13, x10, x16
+    .word 0x03053733  # mulhu x14, x10, x16
     .word 0x00db07b3  # add x15, x22, x13
-    .word 0x00251293  # slli x5, x10, 2
+    .word 0x00261293  # slli x5, x12, 2
     .word 0x002282b3  # add x5, x5, x2
     .word 0x06f2a023  # sw x15, 96(x5)
     .word 0x00d7b333  # sltu x6, x15, x13
-    .word 0x00670633  # add x12, x14, x6
-    .word 0x031586b3  # mul x13, x11, x17
-    .word 0x0315b733  # mulhu x14, x11, x17
+    .word 0x006705b3  # add x11, x14, x6
+    .word 0x031506b3  # mul x13, x10, x17
+    .word 0x03153733  # mulhu x14, x10, x17
     .word 0x00db87b3  # add x15, x23, x13
-    .word 0x00c78b33  # add x22, x15, x12
+    .word 0x00b78b33  # add x22, x15, x11
     .word 0x00d7b333  # sltu x6, x15, x13
     .word 0x006702b3  # add x5, x14, x6
-    .word 0x00cb3333  # sltu x6, x22, x12
-    .word 0x00628633  # add x12, x5, x6
-    .word 0x032586b3  # mul x13, x11, x18
-    .word 0x0325b733  # mulhu x14, x11, x18
+    .word 0x00bb3333  # sltu x6, x22, x11
+    .word 0x006285b3  # add x11, x5, x6
+    .word 0x032506b3  # mul x13, x10, x18
+    .word 0x03253733  # mulhu x14, x10, x18
     .word 0x00dc07b3  # add x15, x24, x13
-    .word 0x00c78bb3  # add x23, x15, x12
+    .word 0x00b78bb3  # add x23, x15, x11
     .word 0x00d7b333  # sltu x6, x15, x13
     .word 0x006702b3  # add x5, x14, x6
-    .word 0x00cbb333  # sltu x6, x23, x12
-    .word 0x00628633  # add x12, x5, x6
-    .word 0x033586b3  # mul x13, x11, x19
-    .word 0x0335b733  # mulhu x14, x11, x19
+    .word 0x00bbb333  # sltu x6, x23, x11
+    .word 0x006285b3  # add x11, x5, x6
+    .word 0x033506b3  # mul x13, x10, x19
+    .word 0x03353733  # mulhu x14, x10, x19
     .word 0x00dc87b3  # add x15, x25, x13
-    .word 0x00c78c33  # add x24, x15, x12
+    .word 0x00b78c33  # add x24, x15, x11
     .word 0x00d7b333  # sltu x6, x15, x13
     .word 0x006702b3  # add x5, x14, x6
-    .word 0x00cc3333  # sltu x6, x24, x12
-    .word 0x00628633  # add x12, x5, x6
-    .word 0x034586b3  # mul x13, x11, x20
-    .word 0x0345b733  # mulhu x14, x11, x20
+    .word 0x00bc3333  # sltu x6, x24, x11
+    .word 0x006285b3  # add x11, x5, x6
+    .word 0x034506b3  # mul x13, x10, x20
+    .word 0x03453733  # mulhu x14, x10, x20
     .word 0x00dd07b3  # add x15, x26, x13
-    .word 0x00c78cb3  # add x25, x15, x12
+    .word 0x00b78cb3  # add x25, x15, x11
     .word 0x00d7b333  # sltu x6, x15, x13
     .word 0x006702b3  # add x5, x14, x6
-    .word 0x00ccb333  # sltu x6, x25, x12
-    .word 0x00628633  # add x12, x5, x6
-    .word 0x035586b3  # mul x13, x11, x21
-    .word 0x0355b733  # mulhu x14, x11, x21
+    .word 0x00bcb333  # sltu x6, x25, x11
+    .word 0x006285b3  # add x11, x5, x6
+    .word 0x035506b3  # mul x13, x10, x21
+    .word 0x03553733  # mulhu x14, x10, x21
     .word 0x00dd87b3  # add x15, x27, x13
-    .word 0x00c78d33  # add x26, x15, x12
+    .word 0x00b78d33  # add x26, x15, x11
     .word 0x00d7b333  # sltu x6, x15, x13
     .word 0x006702b3  # add x5, x14, x6
-    .word 0x00cd3333  # sltu x6, x26, x12
-    .word 0x00628633  # add x12, x5, x6
+    .word 0x00bd3333  # sltu x6, x26, x11
+    .word 0x006285b3  # add x11, x5, x6
     .word 0x08c12303  # lw x6, 140(x2)
-    .word 0x026586b3  # mul x13, x11, x6
+    .word 0x026506b3  # mul x13, x10, x6
     .word 0x08c12303  # lw x6, 140(x2)
-    .word 0x0265b733  # mulhu x14, x11, x6
+    .word 0x02653733  # mulhu x14, x10, x6
     .word 0x00d487b3  # add x15, x9, x13
-    .word 0x00c78db3  # add x27, x15, x12
+    .word 0x00b78db3  # add x27, x15, x11
     .word 0x00d7b333  # sltu x6, x15, x13
     .word 0x006702b3  # add x5, x14, x6
-    .word 0x00cdb333  # sltu x6, x27, x12
-    .word 0x00628633  # add x12, x5, x6
+    .word 0x00bdb333  # sltu x6, x27, x11
+    .word 0x006285b3  # add x11, x5, x6
     .word 0x09012303  # lw x6, 144(x2)
-    .word 0x026586b3  # mul x13, x11, x6
+    .word 0x026506b3  # mul x13, x10, x6
     .word 0x09012303  # lw x6, 144(x2)
-    .word 0x0265b733  # mulhu x14, x11, x6
+    .word 0x02653733  # mulhu x14, x10, x6
     .word 0x09412283  # lw x5, 148(x2)
     .word 0x00d287b3  # add x15, x5, x13
-    .word 0x00c784b3  # add x9, x15, x12
+    .word 0x00b784b3  # add x9, x15, x11
     .word 0x00d7b333  # sltu x6, x15, x13
     .word 0x006702b3  # add x5, x14, x6
-    .word 0x00c4b333  # sltu x6, x9, x12
-    .word 0x00628633  # add x12, x5, x6
-    .word 0x08c12a23  # sw x12, 148(x2)
-    .word 0x00150513  # addi x10, x10, 1
-    .word 0x00853293  # sltiu x5, x10, 8
+    .word 0x00b4b333  # sltu x6, x9, x11
+    .word 0x006285b3  # add x11, x5, x6
+    .word 0x08b12a23  # sw x11, 148(x2)
+    .word 0xff960293  # addi x5, x12, -7
     .word 0xec029ae3  # bne x5, x0, -300
-    .word 0xfff50513  # addi x10, x10, -1
     .word 0x02600313  # addi x6, x0, 38
-    .word 0x026b0633  # mul x12, x22, x6
+    .word 0x026b05b3  # mul x11, x22, x6
     .word 0x02600313  # addi x6, x0, 38
     .word 0x026b37b3  # mulhu x15, x22, x6
     .word 0x06012283  # lw x5, 96(x2)
-    .word 0x00c286b3  # add x13, x5, x12
+    .word 0x00b286b3  # add x13, x5, x11
     .word 0x00068813  # addi x16, x13, 0
-    .word 0x00c6b333  # sltu x6, x13, x12
-    .word 0x006785b3  # add x11, x15, x6
+    .word 0x00b6b333  # sltu x6, x13, x11
+    .word 0x00678533  # add x10, x15, x6
     .word 0x02600313  # addi x6, x0, 38
-    .word 0x026b8633  # mul x12, x23, x6
+    .word 0x026b85b3  # mul x11, x23, x6
     .word 0x02600313  # addi x6, x0, 38
     .word 0x026bb7b3  # mulhu x15, x23, x6
     .word 0x06412283  # lw x5, 100(x2)
-    .word 0x00c286b3  # add x13, x5, x12
-    .word 0x00b688b3  # add x17, x13, x11
-    .word 0x00c6b333  # sltu x6, x13, x12
+    .word 0x00b286b3  # add x13, x5, x11
+    .word 0x00a688b3  # add x17, x13, x10
+    .word 0x00b6b333  # sltu x6, x13, x11
     .word 0x006782b3  # add x5, x15, x6
-    .word 0x00b8b333  # sltu x6, x17, x11
-    .word 0x006285b3  # add x11, x5, x6
+    .word 0x00a8b333  # sltu x6, x17, x10
+    .word 0x00628533  # add x10, x5, x6
     .word 0x02600313  # addi x6, x0, 38
-    .word 0x026c0633  # mul x12, x24, x6
+    .word 0x026c05b3  # mul x11, x24, x6
     .word 0x02600313  # addi x6, x0, 38
     .word 0x026c37b3  # mulhu x15, x24, x6
     .word 0x06812283  # lw x5, 104(x2)
-    .word 0x00c286b3  # add x13, x5, x12
-    .word 0x00b68933  # add x18, x13, x11
-    .word 0x00c6b333  # sltu x6, x13, x12
+    .word 0x00b286b3  # add x13, x5, x11
+    .word 0x00a68933  # add x18, x13, x10
+    .word 0x00b6b333  # sltu x6, x13, x11
     .word 0x006782b3  # add x5, x15, x6
-    .word 0x00b93333  # sltu x6, x18, x11
-    .word 0x006285b3  # add x11, x5, x6
+    .word 0x00a93333  # sltu x6, x18, x10
+    .word 0x00628533  # add x10, x5, x6
     .word 0x02600313  # addi x6, x0, 38
-    .word 0x026c8633  # mul x12, x25, x6
+    .word 0x026c85b3  # mul x11, x25, x6
     .word 0x02600313  # addi x6, x0, 38
     .word 0x026cb7b3  # mulhu x15, x25, x6
     .word 0x06c12283  # lw x5, 108(x2)
-    .word 0x00c286b3  # add x13, x5, x12
-    .word 0x00b689b3  # add x19, x13, x11
-    .word 0x00c6b333  # sltu x6, x13, x12
+    .word 0x00b286b3  # add x13, x5, x11
+    .word 0x00a689b3  # add x19, x13, x10
+    .word 0x00b6b333  # sltu x6, x13, x11
     .word 0x006782b3  # add x5, x15, x6
-    .word 0x00b9b333  # sltu x6, x19, x11
-    .word 0x006285b3  # add x11, x5, x6
+    .word 0x00a9b333  # sltu x6, x19, x10
+    .word 0x00628533  # add x10, x5, x6
     .word 0x02600313  # addi x6, x0, 38
-    .word 0x026d0633  # mul x12, x26, x6
+    .word 0x026d05b3  # mul x11, x26, x6
     .word 0x02600313  # addi x6, x0, 38
     .word 0x026d37b3  # mulhu x15, x26, x6
     .word 0x07012283  # lw x5, 112(x2)
-    .word 0x00c286b3  # add x13, x5, x12
-    .word 0x00b68a33  # add x20, x13, x11
-    .word 0x00c6b333  # sltu x6, x13, x12
+    .word 0x00b286b3  # add x13, x5, x11
+    .word 0x00a68a33  # add x20, x13, x10
+    .word 0x00b6b333  # sltu x6, x13, x11
     .word 0x006782b3  # add x5, x15, x6
-    .word 0x00ba3333  # sltu x6, x20, x11
-    .word 0x006285b3  # add x11, x5, x6
+    .word 0x00aa3333  # sltu x6, x20, x10
+    .word 0x00628533  # add x10, x5, x6
     .word 0x02600313  # addi x6, x0, 38
-    .word 0x026d8633  # mul x12, x27, x6
+    .word 0x026d85b3  # mul x11, x27, x6
     .word 0x02600313  # addi x6, x0, 38
     .word 0x026db7b3  # mulhu x15, x27, x6
     .word 0x07412283  # lw x5, 116(x2)
-    .word 0x00c286b3  # add x13, x5, x12
-    .word 0x00b68ab3  # add x21, x13, x11
-    .word 0x00c6b333  # sltu x6, x13, x12
+    .word 0x00b286b3  # add x13, x5, x11
+    .word 0x00a68ab3  # add x21, x13, x10
+    .word 0x00b6b333  # sltu x6, x13, x11
     .word 0x006782b3  # add x5, x15, x6
-    .word 0x00bab333  # sltu x6, x21, x11
-    .word 0x006285b3  # add x11, x5, x6
+    .word 0x00aab333  # sltu x6, x21, x10
+    .word 0x00628533  # add x10, x5, x6
     .word 0x02600313  # addi x6, x0, 38
-    .word 0x02648633  # mul x12, x9, x6
+    .word 0x026485b3  # mul x11, x9, x6
     .word 0x02600313  # addi x6, x0, 38
     .word 0x0264b7b3  # mulhu x15, x9, x6
     .word 0x07812283  # lw x5, 120(x2)
-    .word 0x00c286b3  # add x13, x5, x12
-    .word 0x00b682b3  # add x5, x13, x11
+    .word 0x00b286b3  # add x13, x5, x11
+    .word 0x00a682b3  # add x5, x13, x10
     .word 0x08512623  # sw x5, 140(x2)
-    .word 0x00c6b333  # sltu x6, x13, x12
+    .word 0x00b6b333  # sltu x6, x13, x11
     .word 0x006782b3  # add x5, x15, x6
     .word 0x08c12303  # lw x6, 140(x2)
-    .word 0x00b33333  # sltu x6, x6, x11
-    .word 0x006285b3  # add x11, x5, x6
+    .word 0x00a33333  # sltu x6, x6, x10
+    .word 0x00628533  # add x10, x5, x6
     .word 0x09412283  # lw x5, 148(x2)
     .word 0x02600313  # addi x6, x0, 38
-    .word 0x02628633  # mul x12, x5, x6
+    .word 0x026285b3  # mul x11, x5, x6
     .word 0x09412283  # lw x5, 148(x2)
     .word 0x02600313  # addi x6, x0, 38
     .word 0x0262b7b3  # mulhu x15, x5, x6
     .word 0x07c12283  # lw x5, 124(x2)
-    .word 0x00c286b3  # add x13, x5, x12
-    .word 0x00b68733  # add x14, x13, x11
-    .word 0x00c6b333  # sltu x6, x13, x12
+    .word 0x00b286b3  # add x13, x5, x11
+    .word 0x00a68733  # add x14, x13, x10
+    .word 0x00b6b333  # sltu x6, x13, x11
     .word 0x006782b3  # add x5, x15, x6
-    .word 0x00b73333  # sltu x6, x14, x11
-    .word 0x006285b3  # add x11, x5, x6
+    .word 0x00a73333  # sltu x6, x14, x10
+    .word 0x00628533  # add x10, x5, x6
     .word 0x01300293  # addi x5, x0, 19
-    .word 0x00159313  # slli x6, x11, 1
+    .word 0x00151313  # slli x6, x10, 1
     .word 0x01f75393  # srli x7, x14, 31
     .word 0x00736333  # or x6, x6, x7
-    .word 0x026285b3  # mul x11, x5, x6
+    .word 0x02628533  # mul x10, x5, x6
     .word 0x00171713  # slli x14, x14, 1
     .word 0x00175713  # srli x14, x14, 1
-    .word 0x00b80833  # add x16, x16, x11
-    .word 0x00b835b3  # sltu x11, x16, x11
-    .word 0x00b888b3  # add x17, x17, x11
-    .word 0x00b8b5b3  # sltu x11, x17, x11
-    .word 0x00b90933  # add x18, x18, x11
-    .word 0x00b935b3  # sltu x11, x18, x11
-    .word 0x00b989b3  # add x19, x19, x11
-    .word 0x00b9b5b3  # sltu x11, x19, x11
-    .word 0x00ba0a33  # add x20, x20, x11
-    .word 0x00ba35b3  # sltu x11, x20, x11
-    .word 0x00ba8ab3  # add x21, x21, x11
-    .word 0x00bab5b3  # sltu x11, x21, x11
+    .word 0x00a80833  # add x16, x16, x10
+    .word 0x00a83533  # sltu x10, x16, x10
+    .word 0x00a888b3  # add x17, x17, x10
+    .word 0x00a8b533  # sltu x10, x17, x10
+    .word 0x00a90933  # add x18, x18, x10
+    .word 0x00a93533  # sltu x10, x18, x10
+    .word 0x00a989b3  # add x19, x19, x10
+    .word 0x00a9b533  # sltu x10, x19, x10
+    .word 0x00aa0a33  # add x20, x20, x10
+    .word 0x00aa3533  # sltu x10, x20, x10
+    .word 0x00aa8ab3  # add x21, x21, x10
+    .word 0x00aab533  # sltu x10, x21, x10
     .word 0x08c12283  # lw x5, 140(x2)
-    .word 0x00b282b3  # add x5, x5, x11
+    .word 0x00a282b3  # add x5, x5, x10
     .word 0x08512623  # sw x5, 140(x2)
     .word 0x08c12283  # lw x5, 140(x2)
-    .word 0x00b2b5b3  # sltu x11, x5, x11
-    .word 0x00b70733  # add x14, x14, x11
+    .word 0x00a2b533  # sltu x10, x5, x10
+    .word 0x00a70733  # add x14, x14, x10
     .word 0x01300313  # addi x6, x0, 19
     .word 0x01f75393  # srli x7, x14, 31
     .word 0x02730333  # mul x6, x6, x7
@@ -304,49 +303,49 @@ f25519_multiply:
     .word 0x00171713  # slli x14, x14, 1
     .word 0x00175713  # srli x14, x14, 1
     .word 0x01380293  # addi x5, x16, 19
-    .word 0x0132b593  # sltiu x11, x5, 19
-    .word 0x00b882b3  # add x5, x17, x11
-    .word 0x00b2b5b3  # sltu x11, x5, x11
-    .word 0x00b902b3  # add x5, x18, x11
-    .word 0x00b2b5b3  # sltu x11, x5, x11
-    .word 0x00b982b3  # add x5, x19, x11
-    .word 0x00b2b5b3  # sltu x11, x5, x11
-    .word 0x00ba02b3  # add x5, x20, x11
-    .word 0x00b2b5b3  # sltu x11, x5, x11
-    .word 0x00ba82b3  # add x5, x21, x11
-    .word 0x00b2b5b3  # sltu x11, x5, x11
+    .word 0x0132b513  # sltiu x10, x5, 19
+    .word 0x00a882b3  # add x5, x17, x10
+    .word 0x00a2b533  # sltu x10, x5, x10
+    .word 0x00a902b3  # add x5, x18, x10
+    .word 0x00a2b533  # sltu x10, x5, x10
+    .word 0x00a982b3  # add x5, x19, x10
+    .word 0x00a2b533  # sltu x10, x5, x10
+    .word 0x00aa02b3  # add x5, x20, x10
+    .word 0x00a2b533  # sltu x10, x5, x10
+    .word 0x00aa82b3  # add x5, x21, x10
+    .word 0x00a2b533  # sltu x10, x5, x10
     .word 0x08c12283  # lw x5, 140(x2)
-    .word 0x00b282b3  # add x5, x5, x11
-    .word 0x00b2b5b3  # sltu x11, x5, x11
-    .word 0x00b702b3  # add x5, x14, x11
+    .word 0x00a282b3  # add x5, x5, x10
+    .word 0x00a2b533  # sltu x10, x5, x10
+    .word 0x00a702b3  # add x5, x14, x10
     .word 0x01f2d293  # srli x5, x5, 31
     .word 0x405002b3  # sub x5, x0, x5
-    .word 0x0132f593  # andi x11, x5, 19
-    .word 0x00b80633  # add x12, x16, x11
-    .word 0x00b635b3  # sltu x11, x12, x11
-    .word 0x00060693  # addi x13, x12, 0
-    .word 0x00b88633  # add x12, x17, x11
-    .word 0x00b635b3  # sltu x11, x12, x11
-    .word 0x00060793  # addi x15, x12, 0
-    .word 0x00b90633  # add x12, x18, x11
-    .word 0x00b635b3  # sltu x11, x12, x11
-    .word 0x00060813  # addi x16, x12, 0
-    .word 0x00b98633  # add x12, x19, x11
-    .word 0x00b635b3  # sltu x11, x12, x11
-    .word 0x00060893  # addi x17, x12, 0
-    .word 0x00ba0633  # add x12, x20, x11
-    .word 0x00b635b3  # sltu x11, x12, x11
-    .word 0x00060913  # addi x18, x12, 0
-    .word 0x00ba8633  # add x12, x21, x11
-    .word 0x00b635b3  # sltu x11, x12, x11
-    .word 0x00060993  # addi x19, x12, 0
+    .word 0x0132f513  # andi x10, x5, 19
+    .word 0x00a805b3  # add x11, x16, x10
+    .word 0x00a5b533  # sltu x10, x11, x10
+    .word 0x00058693  # addi x13, x11, 0
+    .word 0x00a885b3  # add x11, x17, x10
+    .word 0x00a5b533  # sltu x10, x11, x10
+    .word 0x00058793  # addi x15, x11, 0
+    .word 0x00a905b3  # add x11, x18, x10
+    .word 0x00a5b533  # sltu x10, x11, x10
+    .word 0x00058813  # addi x16, x11, 0
+    .word 0x00a985b3  # add x11, x19, x10
+    .word 0x00a5b533  # sltu x10, x11, x10
+    .word 0x00058893  # addi x17, x11, 0
+    .word 0x00aa05b3  # add x11, x20, x10
+    .word 0x00a5b533  # sltu x10, x11, x10
+    .word 0x00058913  # addi x18, x11, 0
+    .word 0x00aa85b3  # add x11, x21, x10
+    .word 0x00a5b533  # sltu x10, x11, x10
+    .word 0x00058993  # addi x19, x11, 0
     .word 0x08c12283  # lw x5, 140(x2)
-    .word 0x00b28633  # add x12, x5, x11
-    .word 0x00b635b3  # sltu x11, x12, x11
-    .word 0x00060a13  # addi x20, x12, 0
-    .word 0x00b70633  # add x12, x14, x11
-    .word 0x00161593  # slli x11, x12, 1
-    .word 0x0015d593  # srli x11, x11, 1
+    .word 0x00a285b3  # add x11, x5, x10
+    .word 0x00a5b533  # sltu x10, x11, x10
+    .word 0x00058a13  # addi x20, x11, 0
+    .word 0x00a705b3  # add x11, x14, x10
+    .word 0x00159513  # slli x10, x11, 1
+    .word 0x00155513  # srli x10, x10, 1
     .word 0x04d12023  # sw x13, 64(x2)
     .word 0x04f12223  # sw x15, 68(x2)
     .word 0x05012423  # sw x16, 72(x2)
@@ -354,7 +353,7 @@ f25519_multiply:
     .word 0x05212823  # sw x18, 80(x2)
     .word 0x05312a23  # sw x19, 84(x2)
     .word 0x05412c23  # sw x20, 88(x2)
-    .word 0x04b12e23  # sw x11, 92(x2)
+    .word 0x04a12e23  # sw x10, 92(x2)
     # the result
     .word 0x00000513  # addi x10, x0, 0
     # parameter 2: the array, back

@@ -1,4 +1,4 @@
-# hex_decode: made by factc 1.0.0 function; 105 words, 128 bytes of stack, profile 1
+# hex_decode: made by factc 1.0.0 function; 102 words, 128 bytes of stack, profile 1
     .option push
     .option norvc
     .option norelax
@@ -25,18 +25,19 @@ hex_decode:
     .word 0x00050293  # addi x5, x10, 0
     .word 0x00010313  # addi x6, x2, 0
     .word 0x04028393  # addi x7, x5, 64
-    .word 0x13000f6f  # jal x30, 304
+    .word 0x12400f6f  # jal x30, 292
     # parameter 1: an array
     .word 0x00058293  # addi x5, x11, 0
     .word 0x04010313  # addi x6, x2, 64
     .word 0x02028393  # addi x7, x5, 32
-    .word 0x12000f6f  # jal x30, 288
+    .word 0x11400f6f  # jal x30, 276
     # the body
     .word 0x00000613  # addi x12, x0, 0
     .word 0x002608b3  # add x17, x12, x2
     .word 0x00100513  # addi x10, x0, 1
     .word 0x00000593  # addi x11, x0, 0
-    .word 0x00000613  # addi x12, x0, 0
+    .word 0xfff00613  # addi x12, x0, -1
+    .word 0x00160613  # addi x12, x12, 1
     .word 0x002608b3  # add x17, x12, x2
     .word 0x0008c283  # lbu x5, 0(x17)
     .word 0xfd028693  # addi x13, x5, -48
@@ -67,12 +68,8 @@ hex_decode:
     .word 0x002282b3  # add x5, x5, x2
     .word 0x04628023  # sb x6, 64(x5)
     .word 0x00068593  # addi x11, x13, 0
-    .word 0x00160613  # addi x12, x12, 1
-    .word 0x002608b3  # add x17, x12, x2
-    .word 0x04063293  # sltiu x5, x12, 64
+    .word 0xfc160293  # addi x5, x12, -63
     .word 0xf80290e3  # bne x5, x0, -128
-    .word 0xfff60613  # addi x12, x12, -1
-    .word 0x002608b3  # add x17, x12, x2
     .word 0x06a12023  # sw x10, 96(x2)
     # the result
     .word 0x06012503  # lw x10, 96(x2)

@@ -1,4 +1,4 @@
-# hex_encode: made by factc 1.0.0 function; 117 words, 144 bytes of stack, profile 1
+# hex_encode: made by factc 1.0.0 function; 116 words, 144 bytes of stack, profile 1
     .option push
     .option norvc
     .option norelax
@@ -33,12 +33,12 @@ hex_encode:
     .word 0x00050293  # addi x5, x10, 0
     .word 0x00010313  # addi x6, x2, 0
     .word 0x02028393  # addi x7, x5, 32
-    .word 0x15000f6f  # jal x30, 336
+    .word 0x14c00f6f  # jal x30, 332
     # parameter 1: an array
     .word 0x00058293  # addi x5, x11, 0
     .word 0x02010313  # addi x6, x2, 32
     .word 0x04028393  # addi x7, x5, 64
-    .word 0x14000f6f  # jal x30, 320
+    .word 0x13c00f6f  # jal x30, 316
     # the body
     .word 0x00000513  # addi x10, x0, 0
     .word 0x000f07b7  # lui x15, 0x000f0
@@ -53,7 +53,8 @@ hex_encode:
     .word 0x03098993  # addi x19, x19, 48
     .word 0x27272a37  # lui x20, 0x27272
     .word 0x727a0a13  # addi x20, x20, 1831
-    .word 0x00000513  # addi x10, x0, 0
+    .word 0xfff00513  # addi x10, x0, -1
+    .word 0x00150513  # addi x10, x10, 1
     .word 0x00151593  # slli x11, x10, 1
     .word 0x00258ab3  # add x21, x11, x2
     .word 0x00159613  # slli x12, x11, 1
@@ -82,10 +83,8 @@ hex_encode:
     .word 0x025b0123  # sb x5, 34(x22)
     .word 0x01875293  # srli x5, x14, 24
     .word 0x025b01a3  # sb x5, 35(x22)
-    .word 0x00150513  # addi x10, x10, 1
-    .word 0x01053293  # sltiu x5, x10, 16
+    .word 0xff150293  # addi x5, x10, -15
     .word 0xf80294e3  # bne x5, x0, -120
-    .word 0xfff50513  # addi x10, x10, -1
     # the result
     .word 0x00000513  # addi x10, x0, 0
     # parameter 1: the array, back

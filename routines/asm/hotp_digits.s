@@ -1,4 +1,4 @@
-# hotp_digits: made by factc 1.0.0 function; 116 words, 32 bytes of stack, profile 1
+# hotp_digits: made by factc 1.0.0 function; 113 words, 32 bytes of stack, profile 1
     .option push
     .option norvc
     .option norelax
@@ -20,10 +20,9 @@ hotp_digits:
     .word 0x00050293  # addi x5, x10, 0
     .word 0x00010313  # addi x6, x2, 0
     .word 0x01428393  # addi x7, x5, 20
-    .word 0x18400f6f  # jal x30, 388
+    .word 0x17800f6f  # jal x30, 376
     # the body
     .word 0x00000693  # addi x13, x0, 0
-    .word 0x00000713  # addi x14, x0, 0
     .word 0x01314283  # lbu x5, 19(x2)
     .word 0x00f2f513  # andi x10, x5, 15
     .word 0x00014283  # lbu x5, 0(x2)
@@ -34,65 +33,63 @@ hotp_digits:
     .word 0x00214303  # lbu x6, 2(x2)
     .word 0x0062e5b3  # or x11, x5, x6
     .word 0x00000613  # addi x12, x0, 0
-    .word 0x00000693  # addi x13, x0, 0
-    .word 0x00269793  # slli x15, x13, 2
-    .word 0x00859293  # slli x5, x11, 8
-    .word 0x00278333  # add x6, x15, x2
-    .word 0x00334303  # lbu x6, 3(x6)
-    .word 0x0062e5b3  # or x11, x5, x6
-    .word 0x00153393  # sltiu x7, x10, 1
-    .word 0x407003b3  # sub x7, x0, x7
-    .word 0x0075f333  # and x6, x11, x7
-    .word 0x00666633  # or x12, x12, x6
-    .word 0xfff50513  # addi x10, x10, -1
-    .word 0x00859293  # slli x5, x11, 8
-    .word 0x00178313  # addi x6, x15, 1
-    .word 0x00230333  # add x6, x6, x2
-    .word 0x00334303  # lbu x6, 3(x6)
-    .word 0x0062e5b3  # or x11, x5, x6
-    .word 0x00153393  # sltiu x7, x10, 1
-    .word 0x407003b3  # sub x7, x0, x7
-    .word 0x0075f333  # and x6, x11, x7
-    .word 0x00666633  # or x12, x12, x6
-    .word 0xfff50513  # addi x10, x10, -1
-    .word 0x00859293  # slli x5, x11, 8
-    .word 0x00278313  # addi x6, x15, 2
-    .word 0x00230333  # add x6, x6, x2
-    .word 0x00334303  # lbu x6, 3(x6)
-    .word 0x0062e5b3  # or x11, x5, x6
-    .word 0x00153393  # sltiu x7, x10, 1
-    .word 0x407003b3  # sub x7, x0, x7
-    .word 0x0075f333  # and x6, x11, x7
-    .word 0x00666633  # or x12, x12, x6
-    .word 0xfff50513  # addi x10, x10, -1
-    .word 0x00859293  # slli x5, x11, 8
-    .word 0x00378313  # addi x6, x15, 3
-    .word 0x00230333  # add x6, x6, x2
-    .word 0x00334303  # lbu x6, 3(x6)
-    .word 0x0062e5b3  # or x11, x5, x6
-    .word 0x00153393  # sltiu x7, x10, 1
-    .word 0x407003b3  # sub x7, x0, x7
-    .word 0x0075f333  # and x6, x11, x7
-    .word 0x00666633  # or x12, x12, x6
-    .word 0xfff50513  # addi x10, x10, -1
+    .word 0xfff00693  # addi x13, x0, -1
     .word 0x00168693  # addi x13, x13, 1
-    .word 0x0046b293  # sltiu x5, x13, 4
+    .word 0x00269713  # slli x14, x13, 2
+    .word 0x00859293  # slli x5, x11, 8
+    .word 0x00270333  # add x6, x14, x2
+    .word 0x00334303  # lbu x6, 3(x6)
+    .word 0x0062e5b3  # or x11, x5, x6
+    .word 0x00153393  # sltiu x7, x10, 1
+    .word 0x407003b3  # sub x7, x0, x7
+    .word 0x0075f333  # and x6, x11, x7
+    .word 0x00666633  # or x12, x12, x6
+    .word 0xfff50513  # addi x10, x10, -1
+    .word 0x00859293  # slli x5, x11, 8
+    .word 0x00170313  # addi x6, x14, 1
+    .word 0x00230333  # add x6, x6, x2
+    .word 0x00334303  # lbu x6, 3(x6)
+    .word 0x0062e5b3  # or x11, x5, x6
+    .word 0x00153393  # sltiu x7, x10, 1
+    .word 0x407003b3  # sub x7, x0, x7
+    .word 0x0075f333  # and x6, x11, x7
+    .word 0x00666633  # or x12, x12, x6
+    .word 0xfff50513  # addi x10, x10, -1
+    .word 0x00859293  # slli x5, x11, 8
+    .word 0x00270313  # addi x6, x14, 2
+    .word 0x00230333  # add x6, x6, x2
+    .word 0x00334303  # lbu x6, 3(x6)
+    .word 0x0062e5b3  # or x11, x5, x6
+    .word 0x00153393  # sltiu x7, x10, 1
+    .word 0x407003b3  # sub x7, x0, x7
+    .word 0x0075f333  # and x6, x11, x7
+    .word 0x00666633  # or x12, x12, x6
+    .word 0xfff50513  # addi x10, x10, -1
+    .word 0x00859293  # slli x5, x11, 8
+    .word 0x00370313  # addi x6, x14, 3
+    .word 0x00230333  # add x6, x6, x2
+    .word 0x00334303  # lbu x6, 3(x6)
+    .word 0x0062e5b3  # or x11, x5, x6
+    .word 0x00153393  # sltiu x7, x10, 1
+    .word 0x407003b3  # sub x7, x0, x7
+    .word 0x0075f333  # and x6, x11, x7
+    .word 0x00666633  # or x12, x12, x6
+    .word 0xfff50513  # addi x10, x10, -1
+    .word 0xffd68293  # addi x5, x13, -3
     .word 0xf4029ce3  # bne x5, x0, -168
-    .word 0xfff68693  # addi x13, x13, -1
     .word 0x00161613  # slli x12, x12, 1
     .word 0x00165613  # srli x12, x12, 1
-    .word 0x7a1207b7  # lui x15, 0x7a120
-    .word 0x00078793  # addi x15, x15, 0
-    .word 0x00000713  # addi x14, x0, 0
-    .word 0x00f633b3  # sltu x7, x12, x15
+    .word 0x7a120737  # lui x14, 0x7a120
+    .word 0x00070713  # addi x14, x14, 0
+    .word 0xfff00693  # addi x13, x0, -1
+    .word 0x00168693  # addi x13, x13, 1
+    .word 0x00e633b3  # sltu x7, x12, x14
     .word 0xfff38393  # addi x7, x7, -1
-    .word 0x0077f333  # and x6, x15, x7
+    .word 0x00777333  # and x6, x14, x7
     .word 0x40660633  # sub x12, x12, x6
-    .word 0x0017d793  # srli x15, x15, 1
-    .word 0x00170713  # addi x14, x14, 1
-    .word 0x00c73293  # sltiu x5, x14, 12
+    .word 0x00175713  # srli x14, x14, 1
+    .word 0xff568293  # addi x5, x13, -11
     .word 0xfe0292e3  # bne x5, x0, -28
-    .word 0xfff70713  # addi x14, x14, -1
     .word 0x00c12a23  # sw x12, 20(x2)
     # the result
     .word 0x01412503  # lw x10, 20(x2)

@@ -1,4 +1,4 @@
-# is_zero_32: made by factc 1.0.0 function; 69 words, 48 bytes of stack, profile 1
+# is_zero_32: made by factc 1.0.0 function; 68 words, 48 bytes of stack, profile 1
     .option push
     .option norvc
     .option norelax
@@ -20,11 +20,12 @@ is_zero_32:
     .word 0x00050293  # addi x5, x10, 0
     .word 0x00010313  # addi x6, x2, 0
     .word 0x02028393  # addi x7, x5, 32
-    .word 0x0b000f6f  # jal x30, 176
+    .word 0x0ac00f6f  # jal x30, 172
     # the body
     .word 0x00000593  # addi x11, x0, 0
     .word 0x00000513  # addi x10, x0, 0
-    .word 0x00000593  # addi x11, x0, 0
+    .word 0xfff00593  # addi x11, x0, -1
+    .word 0x00158593  # addi x11, x11, 1
     .word 0x00259613  # slli x12, x11, 2
     .word 0x002606b3  # add x13, x12, x2
     .word 0x0006c303  # lbu x6, 0(x13)
@@ -35,10 +36,8 @@ is_zero_32:
     .word 0x00656533  # or x10, x10, x6
     .word 0x0036c303  # lbu x6, 3(x13)
     .word 0x00656533  # or x10, x10, x6
-    .word 0x00158593  # addi x11, x11, 1
-    .word 0x0085b293  # sltiu x5, x11, 8
+    .word 0xff958293  # addi x5, x11, -7
     .word 0xfc0298e3  # bne x5, x0, -48
-    .word 0xfff58593  # addi x11, x11, -1
     .word 0x00153293  # sltiu x5, x10, 1
     .word 0x02512023  # sw x5, 32(x2)
     # the result

@@ -1,4 +1,4 @@
-# less_32: made by factc 1.0.0 function; 108 words, 80 bytes of stack, profile 1
+# less_32: made by factc 1.0.0 function; 107 words, 80 bytes of stack, profile 1
     .option push
     .option norvc
     .option norelax
@@ -20,20 +20,21 @@ less_32:
     .word 0x00050293  # addi x5, x10, 0
     .word 0x00010313  # addi x6, x2, 0
     .word 0x02028393  # addi x7, x5, 32
-    .word 0x14c00f6f  # jal x30, 332
+    .word 0x14800f6f  # jal x30, 328
     # parameter 1: an array
     .word 0x00058293  # addi x5, x11, 0
     .word 0x02010313  # addi x6, x2, 32
     .word 0x02028393  # addi x7, x5, 32
-    .word 0x13c00f6f  # jal x30, 316
+    .word 0x13800f6f  # jal x30, 312
     # the body
-    .word 0x00000593  # addi x11, x0, 0
+    .word 0x00000613  # addi x12, x0, 0
     .word 0x00000513  # addi x10, x0, 0
-    .word 0x00000593  # addi x11, x0, 0
+    .word 0xfff00613  # addi x12, x0, -1
+    .word 0x00160613  # addi x12, x12, 1
     .word 0x01800293  # addi x5, x0, 24
-    .word 0x00359313  # slli x6, x11, 3
-    .word 0x40628633  # sub x12, x5, x6
-    .word 0x002606b3  # add x13, x12, x2
+    .word 0x00361313  # slli x6, x12, 3
+    .word 0x406285b3  # sub x11, x5, x6
+    .word 0x002586b3  # add x13, x11, x2
     .word 0x0076c283  # lbu x5, 7(x13)
     .word 0x0276c303  # lbu x6, 39(x13)
     .word 0x406282b3  # sub x5, x5, x6
@@ -74,10 +75,8 @@ less_32:
     .word 0x406282b3  # sub x5, x5, x6
     .word 0x40a282b3  # sub x5, x5, x10
     .word 0x01f2d513  # srli x10, x5, 31
-    .word 0x00158593  # addi x11, x11, 1
-    .word 0x0045b293  # sltiu x5, x11, 4
+    .word 0xffd60293  # addi x5, x12, -3
     .word 0xf40294e3  # bne x5, x0, -184
-    .word 0xfff58593  # addi x11, x11, -1
     .word 0xfff50293  # addi x5, x10, -1
     .word 0x0012b293  # sltiu x5, x5, 1
     .word 0x04512023  # sw x5, 64(x2)

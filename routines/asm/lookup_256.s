@@ -1,4 +1,4 @@
-# lookup_256: made by factc 1.0.0 function; 78 words, 272 bytes of stack, profile 1
+# lookup_256: made by factc 1.0.0 function; 77 words, 272 bytes of stack, profile 1
     .option push
     .option norvc
     .option norelax
@@ -23,13 +23,14 @@ lookup_256:
     .word 0x00058293  # addi x5, x11, 0
     .word 0x00410313  # addi x6, x2, 4
     .word 0x10028393  # addi x7, x5, 256
-    .word 0x0cc00f6f  # jal x30, 204
+    .word 0x0c800f6f  # jal x30, 200
     # the body
     .word 0x00012503  # lw x10, 0(x2)
     .word 0x00000693  # addi x13, x0, 0
     .word 0x00050593  # addi x11, x10, 0
     .word 0x00000613  # addi x12, x0, 0
-    .word 0x00000693  # addi x13, x0, 0
+    .word 0xfff00693  # addi x13, x0, -1
+    .word 0x00168693  # addi x13, x13, 1
     .word 0x08068713  # addi x14, x13, 128
     .word 0x00268333  # add x6, x13, x2
     .word 0x00434303  # lbu x6, 4(x6)
@@ -45,10 +46,8 @@ lookup_256:
     .word 0x0083d393  # srli x7, x7, 8
     .word 0x00737333  # and x6, x6, x7
     .word 0x00666633  # or x12, x12, x6
-    .word 0x00168693  # addi x13, x13, 1
-    .word 0x0806b293  # sltiu x5, x13, 128
+    .word 0xf8168293  # addi x5, x13, -127
     .word 0xfa029ee3  # bne x5, x0, -68
-    .word 0xfff68693  # addi x13, x13, -1
     .word 0x0ff67293  # andi x5, x12, 255
     .word 0x10512223  # sw x5, 260(x2)
     # the result

@@ -1,4 +1,4 @@
-# lookup_bytes_16: made by factc 1.0.0 function; 168 words, 304 bytes of stack, profile 1
+# lookup_bytes_16: made by factc 1.0.0 function; 165 words, 304 bytes of stack, profile 1
     .option push
     .option norvc
     .option norelax
@@ -27,117 +27,114 @@ lookup_bytes_16:
     .word 0x00058293  # addi x5, x11, 0
     .word 0x00410313  # addi x6, x2, 4
     .word 0x10028393  # addi x7, x5, 256
-    .word 0x22400f6f  # jal x30, 548
+    .word 0x21800f6f  # jal x30, 536
     # parameter 2: an array
     .word 0x00060293  # addi x5, x12, 0
     .word 0x10410313  # addi x6, x2, 260
     .word 0x01028393  # addi x7, x5, 16
-    .word 0x21400f6f  # jal x30, 532
+    .word 0x20800f6f  # jal x30, 520
     # the body
     .word 0x00012503  # lw x10, 0(x2)
-    .word 0x00000593  # addi x11, x0, 0
-    .word 0x00000613  # addi x12, x0, 0
-    .word 0x00000593  # addi x11, x0, 0
-    .word 0x00259693  # slli x13, x11, 2
-    .word 0x002687b3  # add x15, x13, x2
-    .word 0x10078223  # sb x0, 260(x15)
-    .word 0x100782a3  # sb x0, 261(x15)
-    .word 0x10078323  # sb x0, 262(x15)
-    .word 0x100783a3  # sb x0, 263(x15)
-    .word 0x00158593  # addi x11, x11, 1
-    .word 0x0045b293  # sltiu x5, x11, 4
+    .word 0x00000693  # addi x13, x0, 0
+    .word 0xfff00693  # addi x13, x0, -1
+    .word 0x00168693  # addi x13, x13, 1
+    .word 0x00269593  # slli x11, x13, 2
+    .word 0x00258733  # add x14, x11, x2
+    .word 0x10070223  # sb x0, 260(x14)
+    .word 0x100702a3  # sb x0, 261(x14)
+    .word 0x10070323  # sb x0, 262(x14)
+    .word 0x100703a3  # sb x0, 263(x14)
+    .word 0xffd68293  # addi x5, x13, -3
     .word 0xfe0290e3  # bne x5, x0, -32
-    .word 0xfff58593  # addi x11, x11, -1
-    .word 0x00000613  # addi x12, x0, 0
-    .word 0x00461693  # slli x13, x12, 4
-    .word 0x002687b3  # add x15, x13, x2
-    .word 0x40a602b3  # sub x5, x12, x10
+    .word 0xfff00693  # addi x13, x0, -1
+    .word 0x00168693  # addi x13, x13, 1
+    .word 0x00469593  # slli x11, x13, 4
+    .word 0x00258733  # add x14, x11, x2
+    .word 0x40a682b3  # sub x5, x13, x10
     .word 0x0012b293  # sltiu x5, x5, 1
-    .word 0x40500733  # sub x14, x0, x5
+    .word 0x40500633  # sub x12, x0, x5
     .word 0x10414283  # lbu x5, 260(x2)
-    .word 0x0047c303  # lbu x6, 4(x15)
-    .word 0x00e37333  # and x6, x6, x14
+    .word 0x00474303  # lbu x6, 4(x14)
+    .word 0x00c37333  # and x6, x6, x12
     .word 0x0062e2b3  # or x5, x5, x6
     .word 0x10510223  # sb x5, 260(x2)
     .word 0x10514283  # lbu x5, 261(x2)
-    .word 0x0057c303  # lbu x6, 5(x15)
-    .word 0x00e37333  # and x6, x6, x14
+    .word 0x00574303  # lbu x6, 5(x14)
+    .word 0x00c37333  # and x6, x6, x12
     .word 0x0062e2b3  # or x5, x5, x6
     .word 0x105102a3  # sb x5, 261(x2)
     .word 0x10614283  # lbu x5, 262(x2)
-    .word 0x0067c303  # lbu x6, 6(x15)
-    .word 0x00e37333  # and x6, x6, x14
+    .word 0x00674303  # lbu x6, 6(x14)
+    .word 0x00c37333  # and x6, x6, x12
     .word 0x0062e2b3  # or x5, x5, x6
     .word 0x10510323  # sb x5, 262(x2)
     .word 0x10714283  # lbu x5, 263(x2)
-    .word 0x0077c303  # lbu x6, 7(x15)
-    .word 0x00e37333  # and x6, x6, x14
+    .word 0x00774303  # lbu x6, 7(x14)
+    .word 0x00c37333  # and x6, x6, x12
     .word 0x0062e2b3  # or x5, x5, x6
     .word 0x105103a3  # sb x5, 263(x2)
     .word 0x10814283  # lbu x5, 264(x2)
-    .word 0x0087c303  # lbu x6, 8(x15)
-    .word 0x00e37333  # and x6, x6, x14
+    .word 0x00874303  # lbu x6, 8(x14)
+    .word 0x00c37333  # and x6, x6, x12
     .word 0x0062e2b3  # or x5, x5, x6
     .word 0x10510423  # sb x5, 264(x2)
     .word 0x10914283  # lbu x5, 265(x2)
-    .word 0x0097c303  # lbu x6, 9(x15)
-    .word 0x00e37333  # and x6, x6, x14
+    .word 0x00974303  # lbu x6, 9(x14)
+    .word 0x00c37333  # and x6, x6, x12
     .word 0x0062e2b3  # or x5, x5, x6
     .word 0x105104a3  # sb x5, 265(x2)
     .word 0x10a14283  # lbu x5, 266(x2)
-    .word 0x00a7c303  # lbu x6, 10(x15)
-    .word 0x00e37333  # and x6, x6, x14
+    .word 0x00a74303  # lbu x6, 10(x14)
+    .word 0x00c37333  # and x6, x6, x12
     .word 0x0062e2b3  # or x5, x5, x6
     .word 0x10510523  # sb x5, 266(x2)
     .word 0x10b14283  # lbu x5, 267(x2)
-    .word 0x00b7c303  # lbu x6, 11(x15)
-    .word 0x00e37333  # and x6, x6, x14
+    .word 0x00b74303  # lbu x6, 11(x14)
+    .word 0x00c37333  # and x6, x6, x12
     .word 0x0062e2b3  # or x5, x5, x6
     .word 0x105105a3  # sb x5, 267(x2)
     .word 0x10c14283  # lbu x5, 268(x2)
-    .word 0x00c7c303  # lbu x6, 12(x15)
-    .word 0x00e37333  # and x6, x6, x14
+    .word 0x00c74303  # lbu x6, 12(x14)
+    .word 0x00c37333  # and x6, x6, x12
     .word 0x0062e2b3  # or x5, x5, x6
     .word 0x10510623  # sb x5, 268(x2)
     .word 0x10d14283  # lbu x5, 269(x2)
-    .word 0x00d7c303  # lbu x6, 13(x15)
-    .word 0x00e37333  # and x6, x6, x14
+    .word 0x00d74303  # lbu x6, 13(x14)
+    .word 0x00c37333  # and x6, x6, x12
     .word 0x0062e2b3  # or x5, x5, x6
     .word 0x105106a3  # sb x5, 269(x2)
     .word 0x10e14283  # lbu x5, 270(x2)
-    .word 0x00e7c303  # lbu x6, 14(x15)
-    .word 0x00e37333  # and x6, x6, x14
+    .word 0x00e74303  # lbu x6, 14(x14)
+    .word 0x00c37333  # and x6, x6, x12
     .word 0x0062e2b3  # or x5, x5, x6
     .word 0x10510723  # sb x5, 270(x2)
     .word 0x10f14283  # lbu x5, 271(x2)
-    .word 0x00f7c303  # lbu x6, 15(x15)
-    .word 0x00e37333  # and x6, x6, x14
+    .word 0x00f74303  # lbu x6, 15(x14)
+    .word 0x00c37333  # and x6, x6, x12
     .word 0x0062e2b3  # or x5, x5, x6
     .word 0x105107a3  # sb x5, 271(x2)
     .word 0x11014283  # lbu x5, 272(x2)
-    .word 0x0107c303  # lbu x6, 16(x15)
-    .word 0x00e37333  # and x6, x6, x14
+    .word 0x01074303  # lbu x6, 16(x14)
+    .word 0x00c37333  # and x6, x6, x12
     .word 0x0062e2b3  # or x5, x5, x6
     .word 0x10510823  # sb x5, 272(x2)
     .word 0x11114283  # lbu x5, 273(x2)
-    .word 0x0117c303  # lbu x6, 17(x15)
-    .word 0x00e37333  # and x6, x6, x14
+    .word 0x01174303  # lbu x6, 17(x14)
+    .word 0x00c37333  # and x6, x6, x12
     .word 0x0062e2b3  # or x5, x5, x6
     .word 0x105108a3  # sb x5, 273(x2)
     .word 0x11214283  # lbu x5, 274(x2)
-    .word 0x0127c303  # lbu x6, 18(x15)
-    .word 0x00e37333  # and x6, x6, x14
+    .word 0x01274303  # lbu x6, 18(x14)
+    .word 0x00c37333  # and x6, x6, x12
     .word 0x0062e2b3  # or x5, x5, x6
     .word 0x10510923  # sb x5, 274(x2)
     .word 0x11314283  # lbu x5, 275(x2)
-    .word 0x0137c303  # lbu x6, 19(x15)
-    .word 0x00e37333  # and x6, x6, x14
+    .word 0x01374303  # lbu x6, 19(x14)
+    .word 0x00c37333  # and x6, x6, x12
     .word 0x0062e2b3  # or x5, x5, x6
     .word 0x105109a3  # sb x5, 275(x2)
-    .word 0x00160613  # addi x12, x12, 1
-    .word 0x01063293  # sltiu x5, x12, 16
+    .word 0xff168293  # addi x5, x13, -15
     .word 0xea0292e3  # bne x5, x0, -348
-    .word 0xfff60613  # addi x12, x12, -1
     # the result
     .word 0x00000513  # addi x10, x0, 0
     # parameter 2: the array, back

@@ -1,4 +1,4 @@
-# lookup_bytes_32: made by factc 1.0.0 function; 172 words, 576 bytes of stack, profile 1
+# lookup_bytes_32: made by factc 1.0.0 function; 169 words, 576 bytes of stack, profile 1
     .option push
     .option norvc
     .option norelax
@@ -27,121 +27,118 @@ lookup_bytes_32:
     .word 0x00058293  # addi x5, x11, 0
     .word 0x00410313  # addi x6, x2, 4
     .word 0x20028393  # addi x7, x5, 512
-    .word 0x23400f6f  # jal x30, 564
+    .word 0x22800f6f  # jal x30, 552
     # parameter 2: an array
     .word 0x00060293  # addi x5, x12, 0
     .word 0x20410313  # addi x6, x2, 516
     .word 0x02028393  # addi x7, x5, 32
-    .word 0x22400f6f  # jal x30, 548
+    .word 0x21800f6f  # jal x30, 536
     # the body
     .word 0x00012503  # lw x10, 0(x2)
     .word 0x00000593  # addi x11, x0, 0
-    .word 0x00000613  # addi x12, x0, 0
-    .word 0x00000593  # addi x11, x0, 0
-    .word 0x00259713  # slli x14, x11, 2
-    .word 0x002708b3  # add x17, x14, x2
-    .word 0x20088223  # sb x0, 516(x17)
-    .word 0x200882a3  # sb x0, 517(x17)
-    .word 0x20088323  # sb x0, 518(x17)
-    .word 0x200883a3  # sb x0, 519(x17)
+    .word 0xfff00593  # addi x11, x0, -1
     .word 0x00158593  # addi x11, x11, 1
-    .word 0x0085b293  # sltiu x5, x11, 8
-    .word 0xfe0290e3  # bne x5, x0, -32
-    .word 0xfff58593  # addi x11, x11, -1
-    .word 0x00000613  # addi x12, x0, 0
-    .word 0x00461693  # slli x13, x12, 4
+    .word 0x00259693  # slli x13, x11, 2
     .word 0x00268833  # add x16, x13, x2
-    .word 0x00167293  # andi x5, x12, 1
-    .word 0x00429713  # slli x14, x5, 4
-    .word 0x002708b3  # add x17, x14, x2
-    .word 0x00165293  # srli x5, x12, 1
+    .word 0x20080223  # sb x0, 516(x16)
+    .word 0x200802a3  # sb x0, 517(x16)
+    .word 0x20080323  # sb x0, 518(x16)
+    .word 0x200803a3  # sb x0, 519(x16)
+    .word 0xff958293  # addi x5, x11, -7
+    .word 0xfe0290e3  # bne x5, x0, -32
+    .word 0xfff00593  # addi x11, x0, -1
+    .word 0x00158593  # addi x11, x11, 1
+    .word 0x00459613  # slli x12, x11, 4
+    .word 0x002607b3  # add x15, x12, x2
+    .word 0x0015f293  # andi x5, x11, 1
+    .word 0x00429693  # slli x13, x5, 4
+    .word 0x00268833  # add x16, x13, x2
+    .word 0x0015d293  # srli x5, x11, 1
     .word 0x40a282b3  # sub x5, x5, x10
     .word 0x0012b293  # sltiu x5, x5, 1
-    .word 0x405007b3  # sub x15, x0, x5
-    .word 0x2048c283  # lbu x5, 516(x17)
-    .word 0x00484303  # lbu x6, 4(x16)
-    .word 0x00f37333  # and x6, x6, x15
+    .word 0x40500733  # sub x14, x0, x5
+    .word 0x20484283  # lbu x5, 516(x16)
+    .word 0x0047c303  # lbu x6, 4(x15)
+    .word 0x00e37333  # and x6, x6, x14
     .word 0x0062e2b3  # or x5, x5, x6
-    .word 0x20588223  # sb x5, 516(x17)
-    .word 0x2058c283  # lbu x5, 517(x17)
-    .word 0x00584303  # lbu x6, 5(x16)
-    .word 0x00f37333  # and x6, x6, x15
+    .word 0x20580223  # sb x5, 516(x16)
+    .word 0x20584283  # lbu x5, 517(x16)
+    .word 0x0057c303  # lbu x6, 5(x15)
+    .word 0x00e37333  # and x6, x6, x14
     .word 0x0062e2b3  # or x5, x5, x6
-    .word 0x205882a3  # sb x5, 517(x17)
-    .word 0x2068c283  # lbu x5, 518(x17)
-    .word 0x00684303  # lbu x6, 6(x16)
-    .word 0x00f37333  # and x6, x6, x15
+    .word 0x205802a3  # sb x5, 517(x16)
+    .word 0x20684283  # lbu x5, 518(x16)
+    .word 0x0067c303  # lbu x6, 6(x15)
+    .word 0x00e37333  # and x6, x6, x14
     .word 0x0062e2b3  # or x5, x5, x6
-    .word 0x20588323  # sb x5, 518(x17)
-    .word 0x2078c283  # lbu x5, 519(x17)
-    .word 0x00784303  # lbu x6, 7(x16)
-    .word 0x00f37333  # and x6, x6, x15
+    .word 0x20580323  # sb x5, 518(x16)
+    .word 0x20784283  # lbu x5, 519(x16)
+    .word 0x0077c303  # lbu x6, 7(x15)
+    .word 0x00e37333  # and x6, x6, x14
     .word 0x0062e2b3  # or x5, x5, x6
-    .word 0x205883a3  # sb x5, 519(x17)
-    .word 0x2088c283  # lbu x5, 520(x17)
-    .word 0x00884303  # lbu x6, 8(x16)
-    .word 0x00f37333  # and x6, x6, x15
+    .word 0x205803a3  # sb x5, 519(x16)
+    .word 0x20884283  # lbu x5, 520(x16)
+    .word 0x0087c303  # lbu x6, 8(x15)
+    .word 0x00e37333  # and x6, x6, x14
     .word 0x0062e2b3  # or x5, x5, x6
-    .word 0x20588423  # sb x5, 520(x17)
-    .word 0x2098c283  # lbu x5, 521(x17)
-    .word 0x00984303  # lbu x6, 9(x16)
-    .word 0x00f37333  # and x6, x6, x15
+    .word 0x20580423  # sb x5, 520(x16)
+    .word 0x20984283  # lbu x5, 521(x16)
+    .word 0x0097c303  # lbu x6, 9(x15)
+    .word 0x00e37333  # and x6, x6, x14
     .word 0x0062e2b3  # or x5, x5, x6
-    .word 0x205884a3  # sb x5, 521(x17)
-    .word 0x20a8c283  # lbu x5, 522(x17)
-    .word 0x00a84303  # lbu x6, 10(x16)
-    .word 0x00f37333  # and x6, x6, x15
+    .word 0x205804a3  # sb x5, 521(x16)
+    .word 0x20a84283  # lbu x5, 522(x16)
+    .word 0x00a7c303  # lbu x6, 10(x15)
+    .word 0x00e37333  # and x6, x6, x14
     .word 0x0062e2b3  # or x5, x5, x6
-    .word 0x20588523  # sb x5, 522(x17)
-    .word 0x20b8c283  # lbu x5, 523(x17)
-    .word 0x00b84303  # lbu x6, 11(x16)
-    .word 0x00f37333  # and x6, x6, x15
+    .word 0x20580523  # sb x5, 522(x16)
+    .word 0x20b84283  # lbu x5, 523(x16)
+    .word 0x00b7c303  # lbu x6, 11(x15)
+    .word 0x00e37333  # and x6, x6, x14
     .word 0x0062e2b3  # or x5, x5, x6
-    .word 0x205885a3  # sb x5, 523(x17)
-    .word 0x20c8c283  # lbu x5, 524(x17)
-    .word 0x00c84303  # lbu x6, 12(x16)
-    .word 0x00f37333  # and x6, x6, x15
+    .word 0x205805a3  # sb x5, 523(x16)
+    .word 0x20c84283  # lbu x5, 524(x16)
+    .word 0x00c7c303  # lbu x6, 12(x15)
+    .word 0x00e37333  # and x6, x6, x14
     .word 0x0062e2b3  # or x5, x5, x6
-    .word 0x20588623  # sb x5, 524(x17)
-    .word 0x20d8c283  # lbu x5, 525(x17)
-    .word 0x00d84303  # lbu x6, 13(x16)
-    .word 0x00f37333  # and x6, x6, x15
+    .word 0x20580623  # sb x5, 524(x16)
+    .word 0x20d84283  # lbu x5, 525(x16)
+    .word 0x00d7c303  # lbu x6, 13(x15)
+    .word 0x00e37333  # and x6, x6, x14
     .word 0x0062e2b3  # or x5, x5, x6
-    .word 0x205886a3  # sb x5, 525(x17)
-    .word 0x20e8c283  # lbu x5, 526(x17)
-    .word 0x00e84303  # lbu x6, 14(x16)
-    .word 0x00f37333  # and x6, x6, x15
+    .word 0x205806a3  # sb x5, 525(x16)
+    .word 0x20e84283  # lbu x5, 526(x16)
+    .word 0x00e7c303  # lbu x6, 14(x15)
+    .word 0x00e37333  # and x6, x6, x14
     .word 0x0062e2b3  # or x5, x5, x6
-    .word 0x20588723  # sb x5, 526(x17)
-    .word 0x20f8c283  # lbu x5, 527(x17)
-    .word 0x00f84303  # lbu x6, 15(x16)
-    .word 0x00f37333  # and x6, x6, x15
+    .word 0x20580723  # sb x5, 526(x16)
+    .word 0x20f84283  # lbu x5, 527(x16)
+    .word 0x00f7c303  # lbu x6, 15(x15)
+    .word 0x00e37333  # and x6, x6, x14
     .word 0x0062e2b3  # or x5, x5, x6
-    .word 0x205887a3  # sb x5, 527(x17)
-    .word 0x2108c283  # lbu x5, 528(x17)
-    .word 0x01084303  # lbu x6, 16(x16)
-    .word 0x00f37333  # and x6, x6, x15
+    .word 0x205807a3  # sb x5, 527(x16)
+    .word 0x21084283  # lbu x5, 528(x16)
+    .word 0x0107c303  # lbu x6, 16(x15)
+    .word 0x00e37333  # and x6, x6, x14
     .word 0x0062e2b3  # or x5, x5, x6
-    .word 0x20588823  # sb x5, 528(x17)
-    .word 0x2118c283  # lbu x5, 529(x17)
-    .word 0x01184303  # lbu x6, 17(x16)
-    .word 0x00f37333  # and x6, x6, x15
+    .word 0x20580823  # sb x5, 528(x16)
+    .word 0x21184283  # lbu x5, 529(x16)
+    .word 0x0117c303  # lbu x6, 17(x15)
+    .word 0x00e37333  # and x6, x6, x14
     .word 0x0062e2b3  # or x5, x5, x6
-    .word 0x205888a3  # sb x5, 529(x17)
-    .word 0x2128c283  # lbu x5, 530(x17)
-    .word 0x01284303  # lbu x6, 18(x16)
-    .word 0x00f37333  # and x6, x6, x15
+    .word 0x205808a3  # sb x5, 529(x16)
+    .word 0x21284283  # lbu x5, 530(x16)
+    .word 0x0127c303  # lbu x6, 18(x15)
+    .word 0x00e37333  # and x6, x6, x14
     .word 0x0062e2b3  # or x5, x5, x6
-    .word 0x20588923  # sb x5, 530(x17)
-    .word 0x2138c283  # lbu x5, 531(x17)
-    .word 0x01384303  # lbu x6, 19(x16)
-    .word 0x00f37333  # and x6, x6, x15
+    .word 0x20580923  # sb x5, 530(x16)
+    .word 0x21384283  # lbu x5, 531(x16)
+    .word 0x0137c303  # lbu x6, 19(x15)
+    .word 0x00e37333  # and x6, x6, x14
     .word 0x0062e2b3  # or x5, x5, x6
-    .word 0x205889a3  # sb x5, 531(x17)
-    .word 0x00160613  # addi x12, x12, 1
-    .word 0x02063293  # sltiu x5, x12, 32
+    .word 0x205809a3  # sb x5, 531(x16)
+    .word 0xfe158293  # addi x5, x11, -31
     .word 0xe8029ae3  # bne x5, x0, -364
-    .word 0xfff60613  # addi x12, x12, -1
     # the result
     .word 0x00000513  # addi x10, x0, 0
     # parameter 2: the array, back

@@ -1,4 +1,4 @@
-# lookup_words_256: made by factc 1.0.0 function; 69 words, 1040 bytes of stack, profile 1
+# lookup_words_256: made by factc 1.0.0 function; 68 words, 1040 bytes of stack, profile 1
     .option push
     .option norvc
     .option norelax
@@ -23,12 +23,13 @@ lookup_words_256:
     .word 0x00058293  # addi x5, x11, 0
     .word 0x00410313  # addi x6, x2, 4
     .word 0x40028393  # addi x7, x5, 1024
-    .word 0x0a800f6f  # jal x30, 168
+    .word 0x0a400f6f  # jal x30, 164
     # the body
     .word 0x00012503  # lw x10, 0(x2)
     .word 0x00000613  # addi x12, x0, 0
     .word 0x00000593  # addi x11, x0, 0
-    .word 0x00000613  # addi x12, x0, 0
+    .word 0xfff00613  # addi x12, x0, -1
+    .word 0x00160613  # addi x12, x12, 1
     .word 0x00261313  # slli x6, x12, 2
     .word 0x00230333  # add x6, x6, x2
     .word 0x00432303  # lw x6, 4(x6)
@@ -37,10 +38,8 @@ lookup_words_256:
     .word 0x407003b3  # sub x7, x0, x7
     .word 0x00737333  # and x6, x6, x7
     .word 0x0065e5b3  # or x11, x11, x6
-    .word 0x00160613  # addi x12, x12, 1
-    .word 0x10063293  # sltiu x5, x12, 256
+    .word 0xf0160293  # addi x5, x12, -255
     .word 0xfc029ce3  # bne x5, x0, -40
-    .word 0xfff60613  # addi x12, x12, -1
     .word 0x40b12223  # sw x11, 1028(x2)
     # the result
     .word 0x40412503  # lw x10, 1028(x2)

@@ -1,4 +1,4 @@
-# md5_block: made by factc 1.0.0 function; 1032 words, 144 bytes of stack, profile 1
+# md5_block: made by factc 1.0.0 function; 888 words, 144 bytes of stack, profile 1
     .option push
     .option norvc
     .option norelax
@@ -55,169 +55,25 @@ md5_block:
     .word 0x00058293  # addi x5, x11, 0
     .word 0x01010313  # addi x6, x2, 16
     .word 0x04028393  # addi x7, x5, 64
-    .word 0x76100f6f  # jal x30, 3936
+    .word 0x52100f6f  # jal x30, 3360
     # the body
-    .word 0x01014283  # lbu x5, 16(x2)
-    .word 0x01114303  # lbu x6, 17(x2)
-    .word 0x00831313  # slli x6, x6, 8
-    .word 0x0062e533  # or x10, x5, x6
-    .word 0x01214283  # lbu x5, 18(x2)
-    .word 0x01029293  # slli x5, x5, 16
-    .word 0x01314303  # lbu x6, 19(x2)
-    .word 0x01831313  # slli x6, x6, 24
-    .word 0x0062e5b3  # or x11, x5, x6
-    .word 0x00b56733  # or x14, x10, x11
-    .word 0x01414283  # lbu x5, 20(x2)
-    .word 0x01514303  # lbu x6, 21(x2)
-    .word 0x00831313  # slli x6, x6, 8
-    .word 0x0062e533  # or x10, x5, x6
-    .word 0x01614283  # lbu x5, 22(x2)
-    .word 0x01029293  # slli x5, x5, 16
-    .word 0x01714303  # lbu x6, 23(x2)
-    .word 0x01831313  # slli x6, x6, 24
-    .word 0x0062e5b3  # or x11, x5, x6
-    .word 0x00b567b3  # or x15, x10, x11
-    .word 0x01814283  # lbu x5, 24(x2)
-    .word 0x01914303  # lbu x6, 25(x2)
-    .word 0x00831313  # slli x6, x6, 8
-    .word 0x0062e533  # or x10, x5, x6
-    .word 0x01a14283  # lbu x5, 26(x2)
-    .word 0x01029293  # slli x5, x5, 16
-    .word 0x01b14303  # lbu x6, 27(x2)
-    .word 0x01831313  # slli x6, x6, 24
-    .word 0x0062e5b3  # or x11, x5, x6
-    .word 0x00b56833  # or x16, x10, x11
-    .word 0x01c14283  # lbu x5, 28(x2)
-    .word 0x01d14303  # lbu x6, 29(x2)
-    .word 0x00831313  # slli x6, x6, 8
-    .word 0x0062e533  # or x10, x5, x6
-    .word 0x01e14283  # lbu x5, 30(x2)
-    .word 0x01029293  # slli x5, x5, 16
-    .word 0x01f14303  # lbu x6, 31(x2)
-    .word 0x01831313  # slli x6, x6, 24
-    .word 0x0062e5b3  # or x11, x5, x6
-    .word 0x00b568b3  # or x17, x10, x11
-    .word 0x02014283  # lbu x5, 32(x2)
-    .word 0x02114303  # lbu x6, 33(x2)
-    .word 0x00831313  # slli x6, x6, 8
-    .word 0x0062e533  # or x10, x5, x6
-    .word 0x02214283  # lbu x5, 34(x2)
-    .word 0x01029293  # slli x5, x5, 16
-    .word 0x02314303  # lbu x6, 35(x2)
-    .word 0x01831313  # slli x6, x6, 24
-    .word 0x0062e5b3  # or x11, x5, x6
-    .word 0x00b56933  # or x18, x10, x11
-    .word 0x02414283  # lbu x5, 36(x2)
-    .word 0x02514303  # lbu x6, 37(x2)
-    .word 0x00831313  # slli x6, x6, 8
-    .word 0x0062e533  # or x10, x5, x6
-    .word 0x02614283  # lbu x5, 38(x2)
-    .word 0x01029293  # slli x5, x5, 16
-    .word 0x02714303  # lbu x6, 39(x2)
-    .word 0x01831313  # slli x6, x6, 24
-    .word 0x0062e5b3  # or x11, x5, x6
-    .word 0x00b569b3  # or x19, x10, x11
-    .word 0x02814283  # lbu x5, 40(x2)
-    .word 0x02914303  # lbu x6, 41(x2)
-    .word 0x00831313  # slli x6, x6, 8
-    .word 0x0062e533  # or x10, x5, x6
-    .word 0x02a14283  # lbu x5, 42(x2)
-    .word 0x01029293  # slli x5, x5, 16
-    .word 0x02b14303  # lbu x6, 43(x2)
-    .word 0x01831313  # slli x6, x6, 24
-    .word 0x0062e5b3  # or x11, x5, x6
-    .word 0x00b56a33  # or x20, x10, x11
-    .word 0x02c14283  # lbu x5, 44(x2)
-    .word 0x02d14303  # lbu x6, 45(x2)
-    .word 0x00831313  # slli x6, x6, 8
-    .word 0x0062e533  # or x10, x5, x6
-    .word 0x02e14283  # lbu x5, 46(x2)
-    .word 0x01029293  # slli x5, x5, 16
-    .word 0x02f14303  # lbu x6, 47(x2)
-    .word 0x01831313  # slli x6, x6, 24
-    .word 0x0062e5b3  # or x11, x5, x6
-    .word 0x00b56ab3  # or x21, x10, x11
-    .word 0x03014283  # lbu x5, 48(x2)
-    .word 0x03114303  # lbu x6, 49(x2)
-    .word 0x00831313  # slli x6, x6, 8
-    .word 0x0062e533  # or x10, x5, x6
-    .word 0x03214283  # lbu x5, 50(x2)
-    .word 0x01029293  # slli x5, x5, 16
-    .word 0x03314303  # lbu x6, 51(x2)
-    .word 0x01831313  # slli x6, x6, 24
-    .word 0x0062e5b3  # or x11, x5, x6
-    .word 0x00b56b33  # or x22, x10, x11
-    .word 0x03414283  # lbu x5, 52(x2)
-    .word 0x03514303  # lbu x6, 53(x2)
-    .word 0x00831313  # slli x6, x6, 8
-    .word 0x0062e533  # or x10, x5, x6
-    .word 0x03614283  # lbu x5, 54(x2)
-    .word 0x01029293  # slli x5, x5, 16
-    .word 0x03714303  # lbu x6, 55(x2)
-    .word 0x01831313  # slli x6, x6, 24
-    .word 0x0062e5b3  # or x11, x5, x6
-    .word 0x00b56bb3  # or x23, x10, x11
-    .word 0x03814283  # lbu x5, 56(x2)
-    .word 0x03914303  # lbu x6, 57(x2)
-    .word 0x00831313  # slli x6, x6, 8
-    .word 0x0062e533  # or x10, x5, x6
-    .word 0x03a14283  # lbu x5, 58(x2)
-    .word 0x01029293  # slli x5, x5, 16
-    .word 0x03b14303  # lbu x6, 59(x2)
-    .word 0x01831313  # slli x6, x6, 24
-    .word 0x0062e5b3  # or x11, x5, x6
-    .word 0x00b56c33  # or x24, x10, x11
-    .word 0x03c14283  # lbu x5, 60(x2)
-    .word 0x03d14303  # lbu x6, 61(x2)
-    .word 0x00831313  # slli x6, x6, 8
-    .word 0x0062e533  # or x10, x5, x6
-    .word 0x03e14283  # lbu x5, 62(x2)
-    .word 0x01029293  # slli x5, x5, 16
-    .word 0x03f14303  # lbu x6, 63(x2)
-    .word 0x01831313  # slli x6, x6, 24
-    .word 0x0062e5b3  # or x11, x5, x6
-    .word 0x00b56cb3  # or x25, x10, x11
-    .word 0x04014283  # lbu x5, 64(x2)
-    .word 0x04114303  # lbu x6, 65(x2)
-    .word 0x00831313  # slli x6, x6, 8
-    .word 0x0062e533  # or x10, x5, x6
-    .word 0x04214283  # lbu x5, 66(x2)
-    .word 0x01029293  # slli x5, x5, 16
-    .word 0x04314303  # lbu x6, 67(x2)
-    .word 0x01831313  # slli x6, x6, 24
-    .word 0x0062e5b3  # or x11, x5, x6
-    .word 0x00b56d33  # or x26, x10, x11
-    .word 0x04414283  # lbu x5, 68(x2)
-    .word 0x04514303  # lbu x6, 69(x2)
-    .word 0x00831313  # slli x6, x6, 8
-    .word 0x0062e533  # or x10, x5, x6
-    .word 0x04614283  # lbu x5, 70(x2)
-    .word 0x01029293  # slli x5, x5, 16
-    .word 0x04714303  # lbu x6, 71(x2)
-    .word 0x01831313  # slli x6, x6, 24
-    .word 0x0062e5b3  # or x11, x5, x6
-    .word 0x00b56db3  # or x27, x10, x11
-    .word 0x04814283  # lbu x5, 72(x2)
-    .word 0x04914303  # lbu x6, 73(x2)
-    .word 0x00831313  # slli x6, x6, 8
-    .word 0x0062e533  # or x10, x5, x6
-    .word 0x04a14283  # lbu x5, 74(x2)
-    .word 0x01029293  # slli x5, x5, 16
-    .word 0x04b14303  # lbu x6, 75(x2)
-    .word 0x01831313  # slli x6, x6, 24
-    .word 0x0062e5b3  # or x11, x5, x6
-    .word 0x00b562b3  # or x5, x10, x11
+    .word 0x01012703  # lw x14, 16(x2)
+    .word 0x01412783  # lw x15, 20(x2)
+    .word 0x01812803  # lw x16, 24(x2)
+    .word 0x01c12883  # lw x17, 28(x2)
+    .word 0x02012903  # lw x18, 32(x2)
+    .word 0x02412983  # lw x19, 36(x2)
+    .word 0x02812a03  # lw x20, 40(x2)
+    .word 0x02c12a83  # lw x21, 44(x2)
+    .word 0x03012b03  # lw x22, 48(x2)
+    .word 0x03412b83  # lw x23, 52(x2)
+    .word 0x03812c03  # lw x24, 56(x2)
+    .word 0x03c12c83  # lw x25, 60(x2)
+    .word 0x04012d03  # lw x26, 64(x2)
+    .word 0x04412d83  # lw x27, 68(x2)
+    .word 0x04812283  # lw x5, 72(x2)
     .word 0x04512823  # sw x5, 80(x2)
-    .word 0x04c14283  # lbu x5, 76(x2)
-    .word 0x04d14303  # lbu x6, 77(x2)
-    .word 0x00831313  # slli x6, x6, 8
-    .word 0x0062e533  # or x10, x5, x6
-    .word 0x04e14283  # lbu x5, 78(x2)
-    .word 0x01029293  # slli x5, x5, 16
-    .word 0x04f14303  # lbu x6, 79(x2)
-    .word 0x01831313  # slli x6, x6, 24
-    .word 0x0062e5b3  # or x11, x5, x6
-    .word 0x00b562b3  # or x5, x10, x11
+    .word 0x04c12283  # lw x5, 76(x2)
     .word 0x04512a23  # sw x5, 84(x2)
     .word 0x00012503  # lw x10, 0(x2)
     .word 0x00412583  # lw x11, 4(x2)

@@ -1,4 +1,4 @@
-# minimum_maximum_16: made by factc 1.0.0 function; 116 words, 112 bytes of stack, profile 1
+# minimum_maximum_16: made by factc 1.0.0 function; 115 words, 112 bytes of stack, profile 1
     .option push
     .option norvc
     .option norelax
@@ -23,12 +23,13 @@ minimum_maximum_16:
     .word 0x00050293  # addi x5, x10, 0
     .word 0x00010313  # addi x6, x2, 0
     .word 0x04028393  # addi x7, x5, 64
-    .word 0x16000f6f  # jal x30, 352
+    .word 0x15c00f6f  # jal x30, 348
     # the body
     .word 0x00000613  # addi x12, x0, 0
     .word 0x00012503  # lw x10, 0(x2)
     .word 0x00050593  # addi x11, x10, 0
-    .word 0x00000613  # addi x12, x0, 0
+    .word 0xfff00613  # addi x12, x0, -1
+    .word 0x00160613  # addi x12, x12, 1
     .word 0x00261713  # slli x14, x12, 2
     .word 0x00271793  # slli x15, x14, 2
     .word 0x002787b3  # add x15, x15, x2
@@ -76,10 +77,8 @@ minimum_maximum_16:
     .word 0x00b6c333  # xor x6, x13, x11
     .word 0x00537333  # and x6, x6, x5
     .word 0x0065c5b3  # xor x11, x11, x6
-    .word 0x00160613  # addi x12, x12, 1
-    .word 0x00463293  # sltiu x5, x12, 4
+    .word 0xffd60293  # addi x5, x12, -3
     .word 0xf2029ee3  # bne x5, x0, -196
-    .word 0xfff60613  # addi x12, x12, -1
     .word 0x04a12023  # sw x10, 64(x2)
     .word 0x04b12223  # sw x11, 68(x2)
     # the result

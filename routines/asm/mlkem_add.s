@@ -1,4 +1,4 @@
-# mlkem_add: made by factc 1.0.0 function; 103 words, 1056 bytes of stack, profile 1
+# mlkem_add: made by factc 1.0.0 function; 102 words, 1056 bytes of stack, profile 1
     .option push
     .option norvc
     .option norelax
@@ -22,17 +22,18 @@ mlkem_add:
     .word 0x00050293  # addi x5, x10, 0
     .word 0x00010313  # addi x6, x2, 0
     .word 0x20028393  # addi x7, x5, 512
-    .word 0x13000f6f  # jal x30, 304
+    .word 0x12c00f6f  # jal x30, 300
     # parameter 1: an array
     .word 0x00058293  # addi x5, x11, 0
     .word 0x20010313  # addi x6, x2, 512
     .word 0x20028393  # addi x7, x5, 512
-    .word 0x12000f6f  # jal x30, 288
+    .word 0x11c00f6f  # jal x30, 284
     # the body
     .word 0x00000593  # addi x11, x0, 0
     .word 0x00001537  # lui x10, 0x00001
     .word 0xd0150513  # addi x10, x10, -767
-    .word 0x00000593  # addi x11, x0, 0
+    .word 0xfff00593  # addi x11, x0, -1
+    .word 0x00158593  # addi x11, x11, 1
     .word 0x00259713  # slli x14, x11, 2
     .word 0x00171793  # slli x15, x14, 1
     .word 0x002787b3  # add x15, x15, x2
@@ -68,10 +69,8 @@ mlkem_add:
     .word 0x00a2f6b3  # and x13, x5, x10
     .word 0x00d602b3  # add x5, x12, x13
     .word 0x00579323  # sh x5, 6(x15)
-    .word 0x00158593  # addi x11, x11, 1
-    .word 0x0405b293  # sltiu x5, x11, 64
+    .word 0xfc158293  # addi x5, x11, -63
     .word 0xf60296e3  # bne x5, x0, -148
-    .word 0xfff58593  # addi x11, x11, -1
     # the result
     .word 0x00000513  # addi x10, x0, 0
     # parameter 0: the array, back

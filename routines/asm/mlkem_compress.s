@@ -1,4 +1,4 @@
-# mlkem_compress: made by factc 1.0.0 function; 102 words, 544 bytes of stack, profile 1
+# mlkem_compress: made by factc 1.0.0 function; 101 words, 544 bytes of stack, profile 1
     .option push
     .option norvc
     .option norelax
@@ -22,7 +22,7 @@ mlkem_compress:
     .word 0x00050293  # addi x5, x10, 0
     .word 0x00010313  # addi x6, x2, 0
     .word 0x20028393  # addi x7, x5, 512
-    .word 0x12c00f6f  # jal x30, 300
+    .word 0x12800f6f  # jal x30, 296
     # parameter 1: a word
     .word 0x20b12023  # sw x11, 512(x2)
     # the body
@@ -35,7 +35,8 @@ mlkem_compress:
     .word 0x00100293  # addi x5, x0, 1
     .word 0x00b292b3  # sll x5, x5, x11
     .word 0xfff28613  # addi x12, x5, -1
-    .word 0x00000693  # addi x13, x0, 0
+    .word 0xfff00693  # addi x13, x0, -1
+    .word 0x00168693  # addi x13, x13, 1
     .word 0x00269793  # slli x15, x13, 2
     .word 0x00179893  # slli x17, x15, 1
     .word 0x002888b3  # add x17, x17, x2
@@ -67,10 +68,8 @@ mlkem_compress:
     .word 0x00b75293  # srli x5, x14, 11
     .word 0x00c2f2b3  # and x5, x5, x12
     .word 0x00589323  # sh x5, 6(x17)
-    .word 0x00168693  # addi x13, x13, 1
-    .word 0x0406b293  # sltiu x5, x13, 64
+    .word 0xfc168293  # addi x5, x13, -63
     .word 0xf6029ee3  # bne x5, x0, -132
-    .word 0xfff68693  # addi x13, x13, -1
     # the result
     .word 0x00000513  # addi x10, x0, 0
     # parameter 0: the array, back

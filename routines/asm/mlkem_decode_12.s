@@ -1,4 +1,4 @@
-# mlkem_decode_12: made by factc 1.0.0 function; 119 words, 944 bytes of stack, profile 1
+# mlkem_decode_12: made by factc 1.0.0 function; 118 words, 944 bytes of stack, profile 1
     .option push
     .option norvc
     .option norelax
@@ -29,17 +29,18 @@ mlkem_decode_12:
     .word 0x00050293  # addi x5, x10, 0
     .word 0x00010313  # addi x6, x2, 0
     .word 0x18028393  # addi x7, x5, 384
-    .word 0x16000f6f  # jal x30, 352
+    .word 0x15c00f6f  # jal x30, 348
     # parameter 1: an array
     .word 0x00058293  # addi x5, x11, 0
     .word 0x18010313  # addi x6, x2, 384
     .word 0x20028393  # addi x7, x5, 512
-    .word 0x15000f6f  # jal x30, 336
+    .word 0x14c00f6f  # jal x30, 332
     # the body
     .word 0x00000513  # addi x10, x0, 0
     .word 0x00001937  # lui x18, 0x00001
     .word 0xd0190913  # addi x18, x18, -767
-    .word 0x00000513  # addi x10, x0, 0
+    .word 0xfff00513  # addi x10, x0, -1
+    .word 0x00150513  # addi x10, x10, 1
     .word 0x00600293  # addi x5, x0, 6
     .word 0x02a285b3  # mul x11, x5, x10
     .word 0x002589b3  # add x19, x11, x2
@@ -84,10 +85,8 @@ mlkem_decode_12:
     .word 0x190a1123  # sh x16, 386(x20)
     .word 0x191a1223  # sh x17, 388(x20)
     .word 0x18da1323  # sh x13, 390(x20)
-    .word 0x00150513  # addi x10, x10, 1
-    .word 0x04053293  # sltiu x5, x10, 64
+    .word 0xfc150293  # addi x5, x10, -63
     .word 0xf40294e3  # bne x5, x0, -184
-    .word 0xfff50513  # addi x10, x10, -1
     # the result
     .word 0x00000513  # addi x10, x0, 0
     # parameter 1: the array, back

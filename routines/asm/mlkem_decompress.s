@@ -1,4 +1,4 @@
-# mlkem_decompress: made by factc 1.0.0 function; 94 words, 544 bytes of stack, profile 1
+# mlkem_decompress: made by factc 1.0.0 function; 93 words, 544 bytes of stack, profile 1
     .option push
     .option norvc
     .option norelax
@@ -22,7 +22,7 @@ mlkem_decompress:
     .word 0x00050293  # addi x5, x10, 0
     .word 0x00010313  # addi x6, x2, 0
     .word 0x20028393  # addi x7, x5, 512
-    .word 0x10c00f6f  # jal x30, 268
+    .word 0x10800f6f  # jal x30, 264
     # parameter 1: a word
     .word 0x20b12023  # sw x11, 512(x2)
     # the body
@@ -35,7 +35,8 @@ mlkem_decompress:
     .word 0x0012d613  # srli x12, x5, 1
     .word 0x000016b7  # lui x13, 0x00001
     .word 0xd0168693  # addi x13, x13, -767
-    .word 0x00000713  # addi x14, x0, 0
+    .word 0xfff00713  # addi x14, x0, -1
+    .word 0x00170713  # addi x14, x14, 1
     .word 0x00271813  # slli x16, x14, 2
     .word 0x00181893  # slli x17, x16, 1
     .word 0x002888b3  # add x17, x17, x2
@@ -59,10 +60,8 @@ mlkem_decompress:
     .word 0x00c287b3  # add x15, x5, x12
     .word 0x00b7d2b3  # srl x5, x15, x11
     .word 0x00589323  # sh x5, 6(x17)
-    .word 0x00170713  # addi x14, x14, 1
-    .word 0x04073293  # sltiu x5, x14, 64
+    .word 0xfc170293  # addi x5, x14, -63
     .word 0xf8029ee3  # bne x5, x0, -100
-    .word 0xfff70713  # addi x14, x14, -1
     # the result
     .word 0x00000513  # addi x10, x0, 0
     # parameter 0: the array, back

@@ -1,4 +1,4 @@
-# mlkem_encode_12: made by factc 1.0.0 function; 95 words, 928 bytes of stack, profile 1
+# mlkem_encode_12: made by factc 1.0.0 function; 94 words, 928 bytes of stack, profile 1
     .option push
     .option norvc
     .option norelax
@@ -25,15 +25,16 @@ mlkem_encode_12:
     .word 0x00050293  # addi x5, x10, 0
     .word 0x00010313  # addi x6, x2, 0
     .word 0x20028393  # addi x7, x5, 512
-    .word 0x10800f6f  # jal x30, 264
+    .word 0x10400f6f  # jal x30, 260
     # parameter 1: an array
     .word 0x00058293  # addi x5, x11, 0
     .word 0x20010313  # addi x6, x2, 512
     .word 0x18028393  # addi x7, x5, 384
-    .word 0x0f800f6f  # jal x30, 248
+    .word 0x0f400f6f  # jal x30, 244
     # the body
     .word 0x00000513  # addi x10, x0, 0
-    .word 0x00000513  # addi x10, x0, 0
+    .word 0xfff00513  # addi x10, x0, -1
+    .word 0x00150513  # addi x10, x10, 1
     .word 0x00251593  # slli x11, x10, 2
     .word 0x00159893  # slli x17, x11, 1
     .word 0x002888b3  # add x17, x17, x2
@@ -60,10 +61,8 @@ mlkem_encode_12:
     .word 0x20590223  # sb x5, 516(x18)
     .word 0x00485293  # srli x5, x16, 4
     .word 0x205902a3  # sb x5, 517(x18)
-    .word 0x00150513  # addi x10, x10, 1
-    .word 0x04053293  # sltiu x5, x10, 64
+    .word 0xfc150293  # addi x5, x10, -63
     .word 0xf80298e3  # bne x5, x0, -112
-    .word 0xfff50513  # addi x10, x10, -1
     # the result
     .word 0x00000513  # addi x10, x0, 0
     # parameter 1: the array, back

@@ -1,4 +1,4 @@
-# mlkem_inverse_ntt: made by factc 1.0.0 function; 990 words, 1136 bytes of stack, profile 1
+# mlkem_inverse_ntt: made by factc 1.0.0 function; 984 words, 1136 bytes of stack, profile 1
     .option push
     .option norvc
     .option norelax
@@ -46,7 +46,7 @@ mlkem_inverse_ntt:
     .word 0x00050293  # addi x5, x10, 0
     .word 0x00010313  # addi x6, x2, 0
     .word 0x20028393  # addi x7, x5, 512
-    .word 0x6dd00f6f  # jal x30, 3804
+    .word 0x6c500f6f  # jal x30, 3780
     # the body
     .word 0x00000513  # addi x10, x0, 0
     .word 0x00000813  # addi x16, x0, 0
@@ -438,7 +438,8 @@ mlkem_inverse_ntt:
     .word 0xa5a482b7  # lui x5, 0xa5a48
     .word 0xd3228293  # addi x5, x5, -718
     .word 0x3e512e23  # sw x5, 1020(x2)
-    .word 0x00000513  # addi x10, x0, 0
+    .word 0xfff00513  # addi x10, x0, -1
+    .word 0x00150513  # addi x10, x10, 1
     .word 0x07f00293  # addi x5, x0, 127
     .word 0x00351313  # slli x6, x10, 3
     .word 0x406282b3  # sub x5, x5, x6
@@ -662,23 +663,21 @@ mlkem_inverse_ntt:
     .word 0x01449123  # sh x20, 2(x9)
     .word 0x01349223  # sh x19, 4(x9)
     .word 0x01a49323  # sh x26, 6(x9)
-    .word 0x00150513  # addi x10, x10, 1
-    .word 0x00853293  # sltiu x5, x10, 8
+    .word 0xff950293  # addi x5, x10, -7
     .word 0xc6029ee3  # bne x5, x0, -900
-    .word 0xfff50513  # addi x10, x10, -1
     .word 0x0013b5b7  # lui x11, 0x0013b
     .word 0xfb858593  # addi x11, x11, -72
-    .word 0x40012c23  # sw x0, 1048(x2)
+    .word 0x40012a23  # sw x0, 1044(x2)
     .word 0x00800293  # addi x5, x0, 8
-    .word 0x40512e23  # sw x5, 1052(x2)
-    .word 0x41812303  # lw x6, 1048(x2)
-    .word 0x41c12283  # lw x5, 1052(x2)
+    .word 0x40512c23  # sw x5, 1048(x2)
+    .word 0x41412303  # lw x6, 1044(x2)
+    .word 0x41812283  # lw x5, 1048(x2)
     .word 0x005332b3  # sltu x5, x6, x5
     .word 0x00029463  # bne x5, x0, 8
-    .word 0x2340006f  # jal x0, 564
+    .word 0x2280006f  # jal x0, 552
     .word 0x40612023  # sw x6, 1024(x2)
     .word 0x00130313  # addi x6, x6, 1
-    .word 0x40612c23  # sw x6, 1048(x2)
+    .word 0x40612a23  # sw x6, 1044(x2)
     .word 0x00f00293  # addi x5, x0, 15
     .word 0x40012303  # lw x6, 1024(x2)
     .word 0x406288b3  # sub x17, x5, x6
@@ -696,25 +695,25 @@ mlkem_inverse_ntt:
     .word 0x00270733  # add x14, x14, x2
     .word 0x20072703  # lw x14, 512(x14)
     .word 0x00289293  # slli x5, x17, 2
+    .word 0x00229513  # slli x10, x5, 2
+    .word 0x00250533  # add x10, x10, x2
+    .word 0x20c52503  # lw x10, 524(x10)
+    .word 0x00289293  # slli x5, x17, 2
     .word 0x00229793  # slli x15, x5, 2
     .word 0x002787b3  # add x15, x15, x2
-    .word 0x20c7a783  # lw x15, 524(x15)
-    .word 0x00289293  # slli x5, x17, 2
-    .word 0x00229293  # slli x5, x5, 2
-    .word 0x002282b3  # add x5, x5, x2
-    .word 0x2082a283  # lw x5, 520(x5)
-    .word 0x40512223  # sw x5, 1028(x2)
+    .word 0x2087a783  # lw x15, 520(x15)
     .word 0x00289293  # slli x5, x17, 2
     .word 0x00229293  # slli x5, x5, 2
     .word 0x002282b3  # add x5, x5, x2
     .word 0x2042a283  # lw x5, 516(x5)
-    .word 0x40512423  # sw x5, 1032(x2)
+    .word 0x40512223  # sw x5, 1028(x2)
     .word 0x00289293  # slli x5, x17, 2
     .word 0x00229293  # slli x5, x5, 2
     .word 0x002282b3  # add x5, x5, x2
     .word 0x2002a283  # lw x5, 512(x5)
-    .word 0x40512623  # sw x5, 1036(x2)
-    .word 0x00000813  # addi x16, x0, 0
+    .word 0x40512423  # sw x5, 1032(x2)
+    .word 0xfff00813  # addi x16, x0, -1
+    .word 0x00180813  # addi x16, x16, 1
     .word 0x40012283  # lw x5, 1024(x2)
     .word 0x00529293  # slli x5, x5, 5
     .word 0x010288b3  # add x17, x5, x16
@@ -731,24 +730,23 @@ mlkem_inverse_ntt:
     .word 0x01b982b3  # add x5, x19, x27
     .word 0x41228d33  # sub x26, x5, x18
     .word 0x01390933  # add x18, x18, x19
-    .word 0x02fd0d33  # mul x26, x26, x15
+    .word 0x02ad0d33  # mul x26, x26, x10
     .word 0x028d39b3  # mulhu x19, x26, x8
     .word 0x01ba82b3  # add x5, x21, x27
     .word 0x41428d33  # sub x26, x5, x20
     .word 0x015a0a33  # add x20, x20, x21
-    .word 0x40412303  # lw x6, 1028(x2)
-    .word 0x026d0d33  # mul x26, x26, x6
+    .word 0x02fd0d33  # mul x26, x26, x15
     .word 0x028d3ab3  # mulhu x21, x26, x8
     .word 0x01bb82b3  # add x5, x23, x27
     .word 0x41628d33  # sub x26, x5, x22
     .word 0x017b0b33  # add x22, x22, x23
-    .word 0x40812303  # lw x6, 1032(x2)
+    .word 0x40412303  # lw x6, 1028(x2)
     .word 0x026d0d33  # mul x26, x26, x6
     .word 0x028d3bb3  # mulhu x23, x26, x8
     .word 0x01bc82b3  # add x5, x25, x27
     .word 0x41828d33  # sub x26, x5, x24
     .word 0x019c0c33  # add x24, x24, x25
-    .word 0x40c12303  # lw x6, 1036(x2)
+    .word 0x40812303  # lw x6, 1032(x2)
     .word 0x026d0d33  # mul x26, x26, x6
     .word 0x028d3cb3  # mulhu x25, x26, x8
     .word 0x01ba02b3  # add x5, x20, x27
@@ -811,90 +809,86 @@ mlkem_inverse_ntt:
     .word 0x03749423  # sh x23, 40(x9)
     .word 0x03849823  # sh x24, 48(x9)
     .word 0x03a49c23  # sh x26, 56(x9)
-    .word 0x00180813  # addi x16, x16, 1
-    .word 0x00483293  # sltiu x5, x16, 4
-    .word 0xe6029ce3  # bne x5, x0, -392
-    .word 0xfff80813  # addi x16, x16, -1
-    .word 0xdc1ff06f  # jal x0, -576
+    .word 0xffd80293  # addi x5, x16, -3
+    .word 0xe6029ee3  # bne x5, x0, -388
+    .word 0xdcdff06f  # jal x0, -564
     .word 0xfe002637  # lui x12, 0xfe002
     .word 0x76060613  # addi x12, x12, 1888
     .word 0x20412583  # lw x11, 516(x2)
     .word 0x20c12683  # lw x13, 524(x2)
     .word 0x20812703  # lw x14, 520(x2)
-    .word 0x21c12783  # lw x15, 540(x2)
-    .word 0x21812283  # lw x5, 536(x2)
-    .word 0x40512223  # sw x5, 1028(x2)
+    .word 0x21c12503  # lw x10, 540(x2)
+    .word 0x21812783  # lw x15, 536(x2)
     .word 0x21412283  # lw x5, 532(x2)
-    .word 0x40512423  # sw x5, 1032(x2)
+    .word 0x40512223  # sw x5, 1028(x2)
     .word 0x21012283  # lw x5, 528(x2)
-    .word 0x40512623  # sw x5, 1036(x2)
-    .word 0x40012c23  # sw x0, 1048(x2)
+    .word 0x40512423  # sw x5, 1032(x2)
+    .word 0x40012a23  # sw x0, 1044(x2)
     .word 0x02000293  # addi x5, x0, 32
-    .word 0x40512e23  # sw x5, 1052(x2)
-    .word 0x41812303  # lw x6, 1048(x2)
-    .word 0x41c12283  # lw x5, 1052(x2)
+    .word 0x40512c23  # sw x5, 1048(x2)
+    .word 0x41412303  # lw x6, 1044(x2)
+    .word 0x41812283  # lw x5, 1048(x2)
     .word 0x005332b3  # sltu x5, x6, x5
     .word 0x00029463  # bne x5, x0, 8
-    .word 0x1ec0006f  # jal x0, 492
-    .word 0x40612823  # sw x6, 1040(x2)
+    .word 0x1e80006f  # jal x0, 488
+    .word 0x40612623  # sw x6, 1036(x2)
     .word 0x00130313  # addi x6, x6, 1
-    .word 0x40612c23  # sw x6, 1048(x2)
-    .word 0x41012883  # lw x17, 1040(x2)
+    .word 0x40612a23  # sw x6, 1044(x2)
+    .word 0x40c12883  # lw x17, 1036(x2)
     .word 0x00189493  # slli x9, x17, 1
     .word 0x002484b3  # add x9, x9, x2
-    .word 0x41012283  # lw x5, 1040(x2)
+    .word 0x40c12283  # lw x5, 1036(x2)
     .word 0x00129913  # slli x18, x5, 1
     .word 0x00290933  # add x18, x18, x2
     .word 0x00095903  # lhu x18, 0(x18)
-    .word 0x41012283  # lw x5, 1040(x2)
+    .word 0x40c12283  # lw x5, 1036(x2)
     .word 0x00129993  # slli x19, x5, 1
     .word 0x002989b3  # add x19, x19, x2
     .word 0x0409d983  # lhu x19, 64(x19)
-    .word 0x41012283  # lw x5, 1040(x2)
+    .word 0x40c12283  # lw x5, 1036(x2)
     .word 0x00129a13  # slli x20, x5, 1
     .word 0x002a0a33  # add x20, x20, x2
     .word 0x080a5a03  # lhu x20, 128(x20)
-    .word 0x41012283  # lw x5, 1040(x2)
+    .word 0x40c12283  # lw x5, 1036(x2)
     .word 0x00129a93  # slli x21, x5, 1
     .word 0x002a8ab3  # add x21, x21, x2
     .word 0x0c0ada83  # lhu x21, 192(x21)
-    .word 0x41012283  # lw x5, 1040(x2)
+    .word 0x40c12283  # lw x5, 1036(x2)
     .word 0x00129b13  # slli x22, x5, 1
     .word 0x002b0b33  # add x22, x22, x2
     .word 0x100b5b03  # lhu x22, 256(x22)
-    .word 0x41012283  # lw x5, 1040(x2)
+    .word 0x40c12283  # lw x5, 1036(x2)
     .word 0x00129b93  # slli x23, x5, 1
     .word 0x002b8bb3  # add x23, x23, x2
     .word 0x140bdb83  # lhu x23, 320(x23)
-    .word 0x41012283  # lw x5, 1040(x2)
+    .word 0x40c12283  # lw x5, 1036(x2)
     .word 0x00129c13  # slli x24, x5, 1
     .word 0x002c0c33  # add x24, x24, x2
     .word 0x180c5c03  # lhu x24, 384(x24)
-    .word 0x41012283  # lw x5, 1040(x2)
+    .word 0x40c12283  # lw x5, 1036(x2)
     .word 0x00129c93  # slli x25, x5, 1
     .word 0x002c8cb3  # add x25, x25, x2
     .word 0x1c0cdc83  # lhu x25, 448(x25)
     .word 0x01b982b3  # add x5, x19, x27
     .word 0x41228d33  # sub x26, x5, x18
     .word 0x01390933  # add x18, x18, x19
-    .word 0x02fd0d33  # mul x26, x26, x15
+    .word 0x02ad0d33  # mul x26, x26, x10
     .word 0x028d39b3  # mulhu x19, x26, x8
     .word 0x01ba82b3  # add x5, x21, x27
     .word 0x41428d33  # sub x26, x5, x20
     .word 0x015a0a33  # add x20, x20, x21
-    .word 0x40412303  # lw x6, 1028(x2)
-    .word 0x026d0d33  # mul x26, x26, x6
+    .word 0x02fd0d33  # mul x26, x26, x15
     .word 0x028d3ab3  # mulhu x21, x26, x8
     .word 0x01bb82b3  # add x5, x23, x27
     .word 0x41628d33  # sub x26, x5, x22
     .word 0x017b0b33  # add x22, x22, x23
-    .word 0x40812303  # lw x6, 1032(x2)
+    .word 0x40412303  # lw x6, 1028(x2)
     .word 0x026d0d33  # mul x26, x26, x6
     .word 0x028d3bb3  # mulhu x23, x26, x8
     .word 0x01bc82b3  # add x5, x25, x27
     .word 0x41828d33  # sub x26, x5, x24
     .word 0x019c0c33  # add x24, x24, x25
-    .word 0x40c12303  # lw x6, 1036(x2)
+    .word 0x40812303  # lw x6, 1032(x2)
     .word 0x026d0d33  # mul x26, x26, x6
     .word 0x028d3cb3  # mulhu x25, x26, x8
     .word 0x01ba02b3  # add x5, x20, x27
@@ -957,7 +951,7 @@ mlkem_inverse_ntt:
     .word 0x15749023  # sh x23, 320(x9)
     .word 0x19849023  # sh x24, 384(x9)
     .word 0x1da49023  # sh x26, 448(x9)
-    .word 0xe09ff06f  # jal x0, -504
+    .word 0xe0dff06f  # jal x0, -500
     # the result
     .word 0x00000513  # addi x10, x0, 0
     # parameter 0: the array, back

@@ -1,4 +1,4 @@
-# mlkem_message: made by factc 1.0.0 function; 111 words, 576 bytes of stack, profile 1
+# mlkem_message: made by factc 1.0.0 function; 110 words, 576 bytes of stack, profile 1
     .option push
     .option norvc
     .option norelax
@@ -23,15 +23,16 @@ mlkem_message:
     .word 0x00050293  # addi x5, x10, 0
     .word 0x00010313  # addi x6, x2, 0
     .word 0x02028393  # addi x7, x5, 32
-    .word 0x14c00f6f  # jal x30, 332
+    .word 0x14800f6f  # jal x30, 328
     # parameter 1: an array
     .word 0x00058293  # addi x5, x11, 0
     .word 0x02010313  # addi x6, x2, 32
     .word 0x20028393  # addi x7, x5, 512
-    .word 0x13c00f6f  # jal x30, 316
+    .word 0x13800f6f  # jal x30, 312
     # the body
     .word 0x00000513  # addi x10, x0, 0
-    .word 0x00000513  # addi x10, x0, 0
+    .word 0xfff00513  # addi x10, x0, -1
+    .word 0x00150513  # addi x10, x10, 1
     .word 0x00351593  # slli x11, x10, 3
     .word 0x00159693  # slli x13, x11, 1
     .word 0x002686b3  # add x13, x13, x2
@@ -76,10 +77,8 @@ mlkem_message:
     .word 0x405002b3  # sub x5, x0, x5
     .word 0x6812f293  # andi x5, x5, 1665
     .word 0x02569723  # sh x5, 46(x13)
-    .word 0x00150513  # addi x10, x10, 1
-    .word 0x02053293  # sltiu x5, x10, 32
+    .word 0xfe150293  # addi x5, x10, -31
     .word 0xf40294e3  # bne x5, x0, -184
-    .word 0xfff50513  # addi x10, x10, -1
     # the result
     .word 0x00000513  # addi x10, x0, 0
     # parameter 1: the array, back

@@ -1,4 +1,4 @@
-# mlkem_multiply_ntts: made by factc 1.0.0 function; 308 words, 1840 bytes of stack, profile 1
+# mlkem_multiply_ntts: made by factc 1.0.0 function; 303 words, 1840 bytes of stack, profile 1
     .option push
     .option norvc
     .option norelax
@@ -32,17 +32,17 @@ mlkem_multiply_ntts:
     .word 0x00050293  # addi x5, x10, 0
     .word 0x00010313  # addi x6, x2, 0
     .word 0x20028393  # addi x7, x5, 512
-    .word 0x44c00f6f  # jal x30, 1100
+    .word 0x43800f6f  # jal x30, 1080
     # parameter 1: an array
     .word 0x00058293  # addi x5, x11, 0
     .word 0x20010313  # addi x6, x2, 512
     .word 0x20028393  # addi x7, x5, 512
-    .word 0x43c00f6f  # jal x30, 1084
+    .word 0x42800f6f  # jal x30, 1064
     # parameter 2: an array
     .word 0x00060293  # addi x5, x12, 0
     .word 0x40010313  # addi x6, x2, 1024
     .word 0x20028393  # addi x7, x5, 512
-    .word 0x42c00f6f  # jal x30, 1068
+    .word 0x41800f6f  # jal x30, 1048
     # the body
     .word 0x00000513  # addi x10, x0, 0
     .word 0x00251a13  # slli x20, x10, 2
@@ -207,7 +207,8 @@ mlkem_multiply_ntts:
     .word 0x000012b7  # lui x5, 0x00001
     .word 0x86a28293  # addi x5, x5, -1942
     .word 0x6e512e23  # sw x5, 1788(x2)
-    .word 0x00000513  # addi x10, x0, 0
+    .word 0xfff00513  # addi x10, x0, -1
+    .word 0x00150513  # addi x10, x10, 1
     .word 0x00251a13  # slli x20, x10, 2
     .word 0x002a0a33  # add x20, x20, x2
     .word 0x00251593  # slli x11, x10, 2
@@ -270,14 +271,8 @@ mlkem_multiply_ntts:
     .word 0x40680833  # sub x16, x16, x6
     .word 0x411a9023  # sh x17, 1024(x21)
     .word 0x410a9123  # sh x16, 1026(x21)
-    .word 0x00150513  # addi x10, x10, 1
-    .word 0x00251a13  # slli x20, x10, 2
-    .word 0x002a0a33  # add x20, x20, x2
-    .word 0x04053293  # sltiu x5, x10, 64
+    .word 0xfc150293  # addi x5, x10, -63
     .word 0xf00290e3  # bne x5, x0, -256
-    .word 0xfff50513  # addi x10, x10, -1
-    .word 0x00251a13  # slli x20, x10, 2
-    .word 0x002a0a33  # add x20, x20, x2
     # the result
     .word 0x00000513  # addi x10, x0, 0
     # parameter 2: the array, back

@@ -1,4 +1,4 @@
-# mlkem_sample_cbd2: made by factc 1.0.0 function; 161 words, 688 bytes of stack, profile 1
+# mlkem_sample_cbd2: made by factc 1.0.0 function; 160 words, 688 bytes of stack, profile 1
     .option push
     .option norvc
     .option norelax
@@ -31,12 +31,12 @@ mlkem_sample_cbd2:
     .word 0x00050293  # addi x5, x10, 0
     .word 0x00010313  # addi x6, x2, 0
     .word 0x08028393  # addi x7, x5, 128
-    .word 0x20400f6f  # jal x30, 516
+    .word 0x20000f6f  # jal x30, 512
     # parameter 1: an array
     .word 0x00058293  # addi x5, x11, 0
     .word 0x08010313  # addi x6, x2, 128
     .word 0x20028393  # addi x7, x5, 512
-    .word 0x1f400f6f  # jal x30, 500
+    .word 0x1f000f6f  # jal x30, 496
     # the body
     .word 0x00000593  # addi x11, x0, 0
     .word 0x555558b7  # lui x17, 0x55555
@@ -47,18 +47,19 @@ mlkem_sample_cbd2:
     .word 0x88898993  # addi x19, x19, -1912
     .word 0x00001537  # lui x10, 0x00001
     .word 0xd0150513  # addi x10, x10, -767
-    .word 0x00000593  # addi x11, x0, 0
-    .word 0x00259613  # slli x12, x11, 2
-    .word 0x00260a33  # add x20, x12, x2
-    .word 0x00359693  # slli x13, x11, 3
-    .word 0x00169a93  # slli x21, x13, 1
-    .word 0x002a8ab3  # add x21, x21, x2
-    .word 0x000a4283  # lbu x5, 0(x20)
-    .word 0x001a4303  # lbu x6, 1(x20)
+    .word 0xfff00593  # addi x11, x0, -1
+    .word 0x00158593  # addi x11, x11, 1
+    .word 0x00259713  # slli x14, x11, 2
+    .word 0x00270ab3  # add x21, x14, x2
+    .word 0x00359613  # slli x12, x11, 3
+    .word 0x00161a13  # slli x20, x12, 1
+    .word 0x002a0a33  # add x20, x20, x2
+    .word 0x000ac283  # lbu x5, 0(x21)
+    .word 0x001ac303  # lbu x6, 1(x21)
     .word 0x00831313  # slli x6, x6, 8
     .word 0x0062e7b3  # or x15, x5, x6
-    .word 0x002a4283  # lbu x5, 2(x20)
-    .word 0x003a4303  # lbu x6, 3(x20)
+    .word 0x002ac283  # lbu x5, 2(x21)
+    .word 0x003ac303  # lbu x6, 3(x21)
     .word 0x00831313  # slli x6, x6, 8
     .word 0x0062e833  # or x16, x5, x6
     .word 0x01081293  # slli x5, x16, 16
@@ -71,65 +72,63 @@ mlkem_sample_cbd2:
     .word 0x013282b3  # add x5, x5, x19
     .word 0x0027d313  # srli x6, x15, 2
     .word 0x01237333  # and x6, x6, x18
-    .word 0x40628733  # sub x14, x5, x6
-    .word 0x00f77293  # andi x5, x14, 15
+    .word 0x406286b3  # sub x13, x5, x6
+    .word 0x00f6f293  # andi x5, x13, 15
     .word 0xff828793  # addi x15, x5, -8
     .word 0x0107d293  # srli x5, x15, 16
     .word 0x00a2f833  # and x16, x5, x10
     .word 0x010782b3  # add x5, x15, x16
-    .word 0x085a9023  # sh x5, 128(x21)
-    .word 0x00475293  # srli x5, x14, 4
+    .word 0x085a1023  # sh x5, 128(x20)
+    .word 0x0046d293  # srli x5, x13, 4
     .word 0x00f2f293  # andi x5, x5, 15
     .word 0xff828793  # addi x15, x5, -8
     .word 0x0107d293  # srli x5, x15, 16
     .word 0x00a2f833  # and x16, x5, x10
     .word 0x010782b3  # add x5, x15, x16
-    .word 0x085a9123  # sh x5, 130(x21)
-    .word 0x00875293  # srli x5, x14, 8
+    .word 0x085a1123  # sh x5, 130(x20)
+    .word 0x0086d293  # srli x5, x13, 8
     .word 0x00f2f293  # andi x5, x5, 15
     .word 0xff828793  # addi x15, x5, -8
     .word 0x0107d293  # srli x5, x15, 16
     .word 0x00a2f833  # and x16, x5, x10
     .word 0x010782b3  # add x5, x15, x16
-    .word 0x085a9223  # sh x5, 132(x21)
-    .word 0x00c75293  # srli x5, x14, 12
+    .word 0x085a1223  # sh x5, 132(x20)
+    .word 0x00c6d293  # srli x5, x13, 12
     .word 0x00f2f293  # andi x5, x5, 15
     .word 0xff828793  # addi x15, x5, -8
     .word 0x0107d293  # srli x5, x15, 16
     .word 0x00a2f833  # and x16, x5, x10
     .word 0x010782b3  # add x5, x15, x16
-    .word 0x085a9323  # sh x5, 134(x21)
-    .word 0x01075293  # srli x5, x14, 16
+    .word 0x085a1323  # sh x5, 134(x20)
+    .word 0x0106d293  # srli x5, x13, 16
     .word 0x00f2f293  # andi x5, x5, 15
     .word 0xff828793  # addi x15, x5, -8
     .word 0x0107d293  # srli x5, x15, 16
     .word 0x00a2f833  # and x16, x5, x10
     .word 0x010782b3  # add x5, x15, x16
-    .word 0x085a9423  # sh x5, 136(x21)
-    .word 0x01475293  # srli x5, x14, 20
+    .word 0x085a1423  # sh x5, 136(x20)
+    .word 0x0146d293  # srli x5, x13, 20
     .word 0x00f2f293  # andi x5, x5, 15
     .word 0xff828793  # addi x15, x5, -8
     .word 0x0107d293  # srli x5, x15, 16
     .word 0x00a2f833  # and x16, x5, x10
     .word 0x010782b3  # add x5, x15, x16
-    .word 0x085a9523  # sh x5, 138(x21)
-    .word 0x01875293  # srli x5, x14, 24
+    .word 0x085a1523  # sh x5, 138(x20)
+    .word 0x0186d293  # srli x5, x13, 24
     .word 0x00f2f293  # andi x5, x5, 15
     .word 0xff828793  # addi x15, x5, -8
     .word 0x0107d293  # srli x5, x15, 16
     .word 0x00a2f833  # and x16, x5, x10
     .word 0x010782b3  # add x5, x15, x16
-    .word 0x085a9623  # sh x5, 140(x21)
-    .word 0x01c75293  # srli x5, x14, 28
+    .word 0x085a1623  # sh x5, 140(x20)
+    .word 0x01c6d293  # srli x5, x13, 28
     .word 0xff828793  # addi x15, x5, -8
     .word 0x0107d293  # srli x5, x15, 16
     .word 0x00a2f833  # and x16, x5, x10
     .word 0x010782b3  # add x5, x15, x16
-    .word 0x085a9723  # sh x5, 142(x21)
-    .word 0x00158593  # addi x11, x11, 1
-    .word 0x0205b293  # sltiu x5, x11, 32
+    .word 0x085a1723  # sh x5, 142(x20)
+    .word 0xfe158293  # addi x5, x11, -31
     .word 0xec0290e3  # bne x5, x0, -320
-    .word 0xfff58593  # addi x11, x11, -1
     # the result
     .word 0x00000513  # addi x10, x0, 0
     # parameter 1: the array, back

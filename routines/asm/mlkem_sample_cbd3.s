@@ -1,4 +1,4 @@
-# mlkem_sample_cbd3: made by factc 1.0.0 function; 135 words, 752 bytes of stack, profile 1
+# mlkem_sample_cbd3: made by factc 1.0.0 function; 134 words, 752 bytes of stack, profile 1
     .option push
     .option norvc
     .option norelax
@@ -31,12 +31,12 @@ mlkem_sample_cbd3:
     .word 0x00050293  # addi x5, x10, 0
     .word 0x00010313  # addi x6, x2, 0
     .word 0x0c028393  # addi x7, x5, 192
-    .word 0x19c00f6f  # jal x30, 412
+    .word 0x19800f6f  # jal x30, 408
     # parameter 1: an array
     .word 0x00058293  # addi x5, x11, 0
     .word 0x0c010313  # addi x6, x2, 192
     .word 0x20028393  # addi x7, x5, 512
-    .word 0x18c00f6f  # jal x30, 396
+    .word 0x18800f6f  # jal x30, 392
     # the body
     .word 0x00000613  # addi x12, x0, 0
     .word 0x001c7937  # lui x18, 0x001c7
@@ -47,7 +47,8 @@ mlkem_sample_cbd3:
     .word 0xd0150513  # addi x10, x10, -767
     .word 0x002495b7  # lui x11, 0x00249
     .word 0x24958593  # addi x11, x11, 585
-    .word 0x00000613  # addi x12, x0, 0
+    .word 0xfff00613  # addi x12, x0, -1
+    .word 0x00160613  # addi x12, x12, 1
     .word 0x00161293  # slli x5, x12, 1
     .word 0x00c286b3  # add x13, x5, x12
     .word 0x00268a33  # add x20, x13, x2
@@ -100,10 +101,8 @@ mlkem_sample_cbd3:
     .word 0x00a2f8b3  # and x17, x5, x10
     .word 0x011802b3  # add x5, x16, x17
     .word 0x0c5a9323  # sh x5, 198(x21)
-    .word 0x00160613  # addi x12, x12, 1
-    .word 0x04063293  # sltiu x5, x12, 64
+    .word 0xfc160293  # addi x5, x12, -63
     .word 0xf20294e3  # bne x5, x0, -216
-    .word 0xfff60613  # addi x12, x12, -1
     # the result
     .word 0x00000513  # addi x10, x0, 0
     # parameter 1: the array, back

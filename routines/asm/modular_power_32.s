@@ -1,4 +1,4 @@
-# modular_power_32: made by factc 1.0.0 function; 111 words, 64 bytes of stack, profile 1
+# modular_power_32: made by factc 1.0.0 function; 105 words, 64 bytes of stack, profile 1
     .option push
     .option norvc
     .option norelax
@@ -17,8 +17,6 @@ modular_power_32:
     .cfi_offset 18, -16
     .word 0x01312223  # sw x19, 4(x2)
     .cfi_offset 19, -12
-    .word 0x01412423  # sw x20, 8(x2)
-    .cfi_offset 20, -8
     # arguments that are needed behind the body
     # the frame's base
     .word 0xfd010113  # addi x2, x2, -48
@@ -39,8 +37,7 @@ modular_power_32:
     .word 0x00812603  # lw x12, 8(x2)
     .word 0x00000713  # addi x14, x0, 0
     .word 0x00000813  # addi x16, x0, 0
-    .word 0x00000993  # addi x19, x0, 0
-    .word 0x01012a03  # lw x20, 16(x2)
+    .word 0x01012983  # lw x19, 16(x2)
     .word 0xfff60293  # addi x5, x12, -1
     .word 0x005032b3  # sltu x5, x0, x5
     .word 0x00000313  # addi x6, x0, 0
@@ -49,10 +46,12 @@ modular_power_32:
     .word 0x00734333  # xor x6, x6, x7
     .word 0x00537333  # and x6, x6, x5
     .word 0x0063c6b3  # xor x13, x7, x6
-    .word 0x00000713  # addi x14, x0, 0
+    .word 0xfff00713  # addi x14, x0, -1
+    .word 0x00170713  # addi x14, x14, 1
     .word 0x00000793  # addi x15, x0, 0
     .word 0x00068893  # addi x17, x13, 0
-    .word 0x00000813  # addi x16, x0, 0
+    .word 0xfff00813  # addi x16, x0, -1
+    .word 0x00180813  # addi x16, x16, 1
     .word 0x00179793  # slli x15, x15, 1
     .word 0x00c7b3b3  # sltu x7, x15, x12
     .word 0xfff38393  # addi x7, x7, -1
@@ -67,14 +66,13 @@ modular_power_32:
     .word 0x00767333  # and x6, x12, x7
     .word 0x406787b3  # sub x15, x15, x6
     .word 0x00189893  # slli x17, x17, 1
-    .word 0x00180813  # addi x16, x16, 1
-    .word 0x02083293  # sltiu x5, x16, 32
+    .word 0xfe180293  # addi x5, x16, -31
     .word 0xfc0290e3  # bne x5, x0, -64
-    .word 0xfff80813  # addi x16, x16, -1
     .word 0x00078693  # addi x13, x15, 0
     .word 0x00000893  # addi x17, x0, 0
     .word 0x00050913  # addi x18, x10, 0
-    .word 0x00000993  # addi x19, x0, 0
+    .word 0xfff00813  # addi x16, x0, -1
+    .word 0x00180813  # addi x16, x16, 1
     .word 0x00189893  # slli x17, x17, 1
     .word 0x00c8b3b3  # sltu x7, x17, x12
     .word 0xfff38393  # addi x7, x7, -1
@@ -89,24 +87,20 @@ modular_power_32:
     .word 0x00767333  # and x6, x12, x7
     .word 0x406888b3  # sub x17, x17, x6
     .word 0x00191913  # slli x18, x18, 1
-    .word 0x00198993  # addi x19, x19, 1
-    .word 0x0209b293  # sltiu x5, x19, 32
+    .word 0xfe180293  # addi x5, x16, -31
     .word 0xfc0290e3  # bne x5, x0, -64
-    .word 0xfff98993  # addi x19, x19, -1
     .word 0x01f00313  # addi x6, x0, 31
     .word 0x40e30333  # sub x6, x6, x14
     .word 0x0065d2b3  # srl x5, x11, x6
     .word 0x0012f293  # andi x5, x5, 1
     .word 0xfff28293  # addi x5, x5, -1
     .word 0x0012b293  # sltiu x5, x5, 1
-    .word 0x40500a33  # sub x20, x0, x5
+    .word 0x405009b3  # sub x19, x0, x5
     .word 0x00d8c2b3  # xor x5, x17, x13
-    .word 0x0142f2b3  # and x5, x5, x20
+    .word 0x0132f2b3  # and x5, x5, x19
     .word 0x0056c6b3  # xor x13, x13, x5
-    .word 0x00170713  # addi x14, x14, 1
-    .word 0x02073293  # sltiu x5, x14, 32
-    .word 0xf20292e3  # bne x5, x0, -220
-    .word 0xfff70713  # addi x14, x14, -1
+    .word 0xfe170293  # addi x5, x14, -31
+    .word 0xf20296e3  # bne x5, x0, -212
     .word 0x00d12623  # sw x13, 12(x2)
     # the result
     .word 0x00c12503  # lw x10, 12(x2)
@@ -117,8 +111,6 @@ modular_power_32:
     .cfi_restore 18
     .word 0x0042a983  # lw x19, 4(x5)
     .cfi_restore 19
-    .word 0x0082aa03  # lw x20, 8(x5)
-    .cfi_restore 20
     # the caller's x2
     .word 0x01028293  # addi x5, x5, 16
     .cfi_def_cfa 5, 0

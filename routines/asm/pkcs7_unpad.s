@@ -1,4 +1,4 @@
-# pkcs7_unpad: made by factc 1.0.0 function; 99 words, 32 bytes of stack, profile 1
+# pkcs7_unpad: made by factc 1.0.0 function; 98 words, 32 bytes of stack, profile 1
     .option push
     .option norvc
     .option norelax
@@ -20,7 +20,7 @@ pkcs7_unpad:
     .word 0x00050293  # addi x5, x10, 0
     .word 0x00010313  # addi x6, x2, 0
     .word 0x01028393  # addi x7, x5, 16
-    .word 0x12800f6f  # jal x30, 296
+    .word 0x12400f6f  # jal x30, 292
     # the body
     .word 0x00000693  # addi x13, x0, 0
     .word 0x00f14503  # lbu x10, 15(x2)
@@ -30,7 +30,8 @@ pkcs7_unpad:
     .word 0x0062e5b3  # or x11, x5, x6
     .word 0x00f00293  # addi x5, x0, 15
     .word 0x40a28633  # sub x12, x5, x10
-    .word 0x00000693  # addi x13, x0, 0
+    .word 0xfff00693  # addi x13, x0, -1
+    .word 0x00168693  # addi x13, x13, 1
     .word 0x00269713  # slli x14, x13, 2
     .word 0x002707b3  # add x15, x14, x2
     .word 0x0007c303  # lbu x6, 0(x15)
@@ -57,10 +58,8 @@ pkcs7_unpad:
     .word 0x00c37333  # and x6, x6, x12
     .word 0x0065e5b3  # or x11, x11, x6
     .word 0xfff60613  # addi x12, x12, -1
-    .word 0x00168693  # addi x13, x13, 1
-    .word 0x0046b293  # sltiu x5, x13, 4
+    .word 0xffd68293  # addi x5, x13, -3
     .word 0xf80298e3  # bne x5, x0, -112
-    .word 0xfff68693  # addi x13, x13, -1
     .word 0x1005b293  # sltiu x5, x11, 256
     .word 0x01000313  # addi x6, x0, 16
     .word 0x40a30333  # sub x6, x6, x10

@@ -1,4 +1,4 @@
-# poly1305: made by factc 1.0.0 function; 792 words, 304 bytes of stack, profile 1
+# poly1305: made by factc 1.0.0 function; 791 words, 304 bytes of stack, profile 1
     .option push
     .option norvc
     .option norelax
@@ -51,12 +51,12 @@ poly1305:
     .word 0x00050293  # addi x5, x10, 0
     .word 0x00010313  # addi x6, x2, 0
     .word 0x02028393  # addi x7, x5, 32
-    .word 0x3b500f6f  # jal x30, 2996
+    .word 0x3b100f6f  # jal x30, 2992
     # parameter 1: an array
     .word 0x00058293  # addi x5, x11, 0
     .word 0x02010313  # addi x6, x2, 32
     .word 0x04028393  # addi x7, x5, 64
-    .word 0x3a500f6f  # jal x30, 2980
+    .word 0x3a100f6f  # jal x30, 2976
     # parameter 2: a word
     .word 0x06c12023  # sw x12, 96(x2)
     # the body
@@ -364,8 +364,8 @@ poly1305:
     .word 0x0062edb3  # or x27, x5, x6
     .word 0x004d9293  # slli x5, x27, 4
     .word 0x0042d293  # srli x5, x5, 4
-    .word 0x0a512e23  # sw x5, 188(x2)
-    .word 0x0bc12803  # lw x16, 188(x2)
+    .word 0x0c512023  # sw x5, 192(x2)
+    .word 0x0c012803  # lw x16, 192(x2)
     .word 0x00414503  # lbu x10, 4(x2)
     .word 0x00514583  # lbu x11, 5(x2)
     .word 0x00614603  # lbu x12, 6(x2)
@@ -421,7 +421,8 @@ poly1305:
     .word 0x00000a13  # addi x20, x0, 0
     .word 0x00000a93  # addi x21, x0, 0
     .word 0x00000d13  # addi x26, x0, 0
-    .word 0x00000713  # addi x14, x0, 0
+    .word 0xfff00713  # addi x14, x0, -1
+    .word 0x00170713  # addi x14, x14, 1
     .word 0x00471293  # slli x5, x14, 4
     .word 0x07412303  # lw x6, 116(x2)
     .word 0x3462f863  # bgeu x5, x6, 848
@@ -430,7 +431,7 @@ poly1305:
     .word 0x07412303  # lw x6, 116(x2)
     .word 0x005332b3  # sltu x5, x6, x5
     .word 0x0012b293  # sltiu x5, x5, 1
-    .word 0x0c512023  # sw x5, 192(x2)
+    .word 0x0a512e23  # sw x5, 188(x2)
     .word 0x00271293  # slli x5, x14, 2
     .word 0x00229d93  # slli x27, x5, 2
     .word 0x002d8db3  # add x27, x27, x2
@@ -475,16 +476,16 @@ poly1305:
     .word 0x000d8a93  # addi x21, x27, 0
     .word 0x00048d93  # addi x27, x9, 0
     .word 0x01bd02b3  # add x5, x26, x27
-    .word 0x0c012303  # lw x6, 192(x2)
+    .word 0x0bc12303  # lw x6, 188(x2)
     .word 0x00628d33  # add x26, x5, x6
     .word 0x00090b13  # addi x22, x18, 0
     .word 0x00098b93  # addi x23, x19, 0
     .word 0x000a0c13  # addi x24, x20, 0
     .word 0x000a8c93  # addi x25, x21, 0
-    .word 0x0bc12303  # lw x6, 188(x2)
+    .word 0x0c012303  # lw x6, 192(x2)
     .word 0x02690db3  # mul x27, x18, x6
     .word 0x01bdb4b3  # sltu x9, x27, x27
-    .word 0x0bc12303  # lw x6, 188(x2)
+    .word 0x0c012303  # lw x6, 192(x2)
     .word 0x02693933  # mulhu x18, x18, x6
     .word 0x012484b3  # add x9, x9, x18
     .word 0x02f98933  # mul x18, x19, x15
@@ -636,10 +637,8 @@ poly1305:
     .word 0x00048d93  # addi x27, x9, 0
     .word 0x003b7293  # andi x5, x22, 3
     .word 0x01b28d33  # add x26, x5, x27
-    .word 0x00170713  # addi x14, x14, 1
-    .word 0x00473293  # sltiu x5, x14, 4
+    .word 0xffd70293  # addi x5, x14, -3
     .word 0xca0290e3  # bne x5, x0, -864
-    .word 0xfff70713  # addi x14, x14, -1
     .word 0x00590d93  # addi x27, x18, 5
     .word 0x012db4b3  # sltu x9, x27, x18
     .word 0x000d8793  # addi x15, x27, 0

@@ -1,4 +1,4 @@
-# sha256_block: made by factc 1.0.0 function; 1454 words, 480 bytes of stack, profile 1
+# sha256_block: made by factc 1.0.0 function; 1449 words, 480 bytes of stack, profile 1
     .option push
     .option norvc
     .option norelax
@@ -46,12 +46,12 @@ sha256_block:
     .word 0x00050293  # addi x5, x10, 0
     .word 0x00010313  # addi x6, x2, 0
     .word 0x02028393  # addi x7, x5, 32
-    .word 0x61c01f6f  # jal x30, 5660
+    .word 0x60801f6f  # jal x30, 5640
     # parameter 1: an array
     .word 0x00058293  # addi x5, x11, 0
     .word 0x02010313  # addi x6, x2, 32
     .word 0x04028393  # addi x7, x5, 64
-    .word 0x60c01f6f  # jal x30, 5644
+    .word 0x5f801f6f  # jal x30, 5624
     # the body
     .word 0x00000a13  # addi x20, x0, 0
     .word 0x002a1493  # slli x9, x20, 2
@@ -425,7 +425,8 @@ sha256_block:
     .word 0x01812803  # lw x16, 24(x2)
     .word 0x01c12883  # lw x17, 28(x2)
     .word 0x00c5c933  # xor x18, x11, x12
-    .word 0x00000a13  # addi x20, x0, 0
+    .word 0xfff00a13  # addi x20, x0, -1
+    .word 0x001a0a13  # addi x20, x20, 1
     .word 0x002a1493  # slli x9, x20, 2
     .word 0x002484b3  # add x9, x9, x2
     .word 0x5f407663  # bgeu x0, x20, 1516
@@ -1391,14 +1392,8 @@ sha256_block:
     .word 0x00734333  # xor x6, x6, x7
     .word 0x006502b3  # add x5, x10, x6
     .word 0x01328533  # add x10, x5, x19
-    .word 0x001a0a13  # addi x20, x20, 1
-    .word 0x002a1493  # slli x9, x20, 2
-    .word 0x002484b3  # add x9, x9, x2
-    .word 0x004a3293  # sltiu x5, x20, 4
+    .word 0xffda0293  # addi x5, x20, -3
     .word 0x8e029263  # bne x5, x0, -3868
-    .word 0xfffa0a13  # addi x20, x20, -1
-    .word 0x002a1493  # slli x9, x20, 2
-    .word 0x002484b3  # add x9, x9, x2
     .word 0x00012283  # lw x5, 0(x2)
     .word 0x00a282b3  # add x5, x5, x10
     .word 0x00512023  # sw x5, 0(x2)

@@ -76,10 +76,10 @@ siphash24_blocks:
     .word 0x020c4283  # lbu x5, 32(x24)
     .word 0x021c4303  # lbu x6, 33(x24)
     .word 0x00831313  # slli x6, x6, 8
-    .word 0x0062e9b3  # or x19, x5, x6
+    .word 0x0062e2b3  # or x5, x5, x6
     .word 0x022c4303  # lbu x6, 34(x24)
     .word 0x01031313  # slli x6, x6, 16
-    .word 0x0069e2b3  # or x5, x19, x6
+    .word 0x0062e2b3  # or x5, x5, x6
     .word 0x023c4303  # lbu x6, 35(x24)
     .word 0x01831313  # slli x6, x6, 24
     .word 0x0062eb33  # or x22, x5, x6
@@ -89,10 +89,10 @@ siphash24_blocks:
     .word 0x020c4283  # lbu x5, 32(x24)
     .word 0x021c4303  # lbu x6, 33(x24)
     .word 0x00831313  # slli x6, x6, 8
-    .word 0x0062e9b3  # or x19, x5, x6
+    .word 0x0062e2b3  # or x5, x5, x6
     .word 0x022c4303  # lbu x6, 34(x24)
     .word 0x01031313  # slli x6, x6, 16
-    .word 0x0069e2b3  # or x5, x19, x6
+    .word 0x0062e2b3  # or x5, x5, x6
     .word 0x023c4303  # lbu x6, 35(x24)
     .word 0x01831313  # slli x6, x6, 24
     .word 0x0062ebb3  # or x23, x5, x6

@@ -1,4 +1,4 @@
-# siphash24_finish: made by factc 1.0.0 function; 181 words, 96 bytes of stack, profile 1
+# siphash24_finish: made by factc 1.0.0 function; 162 words, 96 bytes of stack, profile 1
     .option push
     .option norvc
     .option norelax
@@ -32,12 +32,12 @@ siphash24_finish:
     .word 0x00050293  # addi x5, x10, 0
     .word 0x00010313  # addi x6, x2, 0
     .word 0x02028393  # addi x7, x5, 32
-    .word 0x26000f6f  # jal x30, 608
+    .word 0x21400f6f  # jal x30, 532
     # parameter 1: an array
     .word 0x00058293  # addi x5, x11, 0
     .word 0x02010313  # addi x6, x2, 32
     .word 0x00828393  # addi x7, x5, 8
-    .word 0x25000f6f  # jal x30, 592
+    .word 0x20400f6f  # jal x30, 516
     # the body
     .word 0x00000a93  # addi x21, x0, 0
     .word 0x00012503  # lw x10, 0(x2)
@@ -48,29 +48,12 @@ siphash24_finish:
     .word 0x01412783  # lw x15, 20(x2)
     .word 0x01812803  # lw x16, 24(x2)
     .word 0x01c12883  # lw x17, 28(x2)
-    .word 0x02014283  # lbu x5, 32(x2)
-    .word 0x02114303  # lbu x6, 33(x2)
-    .word 0x00831313  # slli x6, x6, 8
-    .word 0x0062e933  # or x18, x5, x6
-    .word 0x02214303  # lbu x6, 34(x2)
-    .word 0x01031313  # slli x6, x6, 16
-    .word 0x006962b3  # or x5, x18, x6
-    .word 0x02314303  # lbu x6, 35(x2)
-    .word 0x01831313  # slli x6, x6, 24
-    .word 0x0062e9b3  # or x19, x5, x6
-    .word 0x02414283  # lbu x5, 36(x2)
-    .word 0x02514303  # lbu x6, 37(x2)
-    .word 0x00831313  # slli x6, x6, 8
-    .word 0x0062e933  # or x18, x5, x6
-    .word 0x02614303  # lbu x6, 38(x2)
-    .word 0x01031313  # slli x6, x6, 16
-    .word 0x006962b3  # or x5, x18, x6
-    .word 0x02714303  # lbu x6, 39(x2)
-    .word 0x01831313  # slli x6, x6, 24
-    .word 0x0062ea33  # or x20, x5, x6
+    .word 0x02012983  # lw x19, 32(x2)
+    .word 0x02412a03  # lw x20, 36(x2)
     .word 0x01384833  # xor x16, x16, x19
     .word 0x0148c8b3  # xor x17, x17, x20
-    .word 0x00000a93  # addi x21, x0, 0
+    .word 0xfff00a93  # addi x21, x0, -1
+    .word 0x001a8a93  # addi x21, x21, 1
     .word 0x00200313  # addi x6, x0, 2
     .word 0x006a9863  # bne x21, x6, 16
     .word 0x01354533  # xor x10, x10, x19
@@ -130,10 +113,8 @@ siphash24_finish:
     .word 0x00070913  # addi x18, x14, 0
     .word 0x00078713  # addi x14, x15, 0
     .word 0x00090793  # addi x15, x18, 0
-    .word 0x001a8a93  # addi x21, x21, 1
-    .word 0x006ab293  # sltiu x5, x21, 6
+    .word 0xffba8293  # addi x5, x21, -5
     .word 0xf00296e3  # bne x5, x0, -244
-    .word 0xfffa8a93  # addi x21, x21, -1
     .word 0x00c542b3  # xor x5, x10, x12
     .word 0x00e2c2b3  # xor x5, x5, x14
     .word 0x0102c933  # xor x18, x5, x16

@@ -1,4 +1,4 @@
-# sort_32: made by factc 1.0.0 function; 117 words, 192 bytes of stack, profile 1
+# sort_32: made by factc 1.0.0 function; 115 words, 192 bytes of stack, profile 1
     .option push
     .option norvc
     .option norelax
@@ -34,16 +34,18 @@ sort_32:
     .word 0x00050293  # addi x5, x10, 0
     .word 0x00010313  # addi x6, x2, 0
     .word 0x08028393  # addi x7, x5, 128
-    .word 0x15000f6f  # jal x30, 336
+    .word 0x14800f6f  # jal x30, 328
     # the body
     .word 0x00000613  # addi x12, x0, 0
     .word 0x00000713  # addi x14, x0, 0
     .word 0x00100513  # addi x10, x0, 1
     .word 0x00000593  # addi x11, x0, 0
-    .word 0x00100613  # addi x12, x0, 1
+    .word 0x00000613  # addi x12, x0, 0
+    .word 0x00160613  # addi x12, x12, 1
     .word 0x00100293  # addi x5, x0, 1
     .word 0x00b296b3  # sll x13, x5, x11
-    .word 0x00000713  # addi x14, x0, 0
+    .word 0xfff00713  # addi x14, x0, -1
+    .word 0x00170713  # addi x14, x14, 1
     .word 0x00b752b3  # srl x5, x14, x11
     .word 0x00158313  # addi x6, x11, 1
     .word 0x006292b3  # sll x5, x5, x6
@@ -70,10 +72,8 @@ sort_32:
     .word 0x005b2023  # sw x5, 0(x22)
     .word 0x0149c2b3  # xor x5, x19, x20
     .word 0x005ba023  # sw x5, 0(x23)
-    .word 0x00170713  # addi x14, x14, 1
-    .word 0x01073293  # sltiu x5, x14, 16
+    .word 0xff170293  # addi x5, x14, -15
     .word 0xf80298e3  # bne x5, x0, -112
-    .word 0xfff70713  # addi x14, x14, -1
     .word 0x0015ba93  # sltiu x21, x11, 1
     .word 0xfff58393  # addi x7, x11, -1
     .word 0x415002b3  # sub x5, x0, x21
@@ -81,10 +81,8 @@ sort_32:
     .word 0x00537333  # and x6, x6, x5
     .word 0x0063c5b3  # xor x11, x7, x6
     .word 0x01550533  # add x10, x10, x21
-    .word 0x00160613  # addi x12, x12, 1
-    .word 0x01063293  # sltiu x5, x12, 16
-    .word 0xf4029ce3  # bne x5, x0, -168
-    .word 0xfff60613  # addi x12, x12, -1
+    .word 0xff160293  # addi x5, x12, -15
+    .word 0xf4029ee3  # bne x5, x0, -164
     # the result
     .word 0x00000513  # addi x10, x0, 0
     # parameter 0: the array, back

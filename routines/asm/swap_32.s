@@ -1,4 +1,4 @@
-# swap_32: made by factc 1.0.0 function; 110 words, 96 bytes of stack, profile 1
+# swap_32: made by factc 1.0.0 function; 109 words, 96 bytes of stack, profile 1
     .option push
     .option norvc
     .option norelax
@@ -27,17 +27,18 @@ swap_32:
     .word 0x00058293  # addi x5, x11, 0
     .word 0x00410313  # addi x6, x2, 4
     .word 0x02028393  # addi x7, x5, 32
-    .word 0x13c00f6f  # jal x30, 316
+    .word 0x13800f6f  # jal x30, 312
     # parameter 2: an array
     .word 0x00060293  # addi x5, x12, 0
     .word 0x02410313  # addi x6, x2, 36
     .word 0x02028393  # addi x7, x5, 32
-    .word 0x12c00f6f  # jal x30, 300
+    .word 0x12800f6f  # jal x30, 296
     # the body
     .word 0x00012503  # lw x10, 0(x2)
     .word 0x00000613  # addi x12, x0, 0
     .word 0x40a005b3  # sub x11, x0, x10
-    .word 0x00000613  # addi x12, x0, 0
+    .word 0xfff00613  # addi x12, x0, -1
+    .word 0x00160613  # addi x12, x12, 1
     .word 0x00261813  # slli x16, x12, 2
     .word 0x002808b3  # add x17, x16, x2
     .word 0x0048c683  # lbu x13, 4(x17)
@@ -72,10 +73,8 @@ swap_32:
     .word 0x005883a3  # sb x5, 7(x17)
     .word 0x00f742b3  # xor x5, x14, x15
     .word 0x025883a3  # sb x5, 39(x17)
-    .word 0x00160613  # addi x12, x12, 1
-    .word 0x00863293  # sltiu x5, x12, 8
+    .word 0xff960293  # addi x5, x12, -7
     .word 0xf60298e3  # bne x5, x0, -144
-    .word 0xfff60613  # addi x12, x12, -1
     # the result
     .word 0x00000513  # addi x10, x0, 0
     # parameter 1: the array, back

@@ -1,4 +1,4 @@
-# tls_mac_check_20: made by factc 1.0.0 function; 521 words, 368 bytes of stack, profile 1
+# tls_mac_check_20: made by factc 1.0.0 function; 475 words, 368 bytes of stack, profile 1
     .option push
     .option norvc
     .option norelax
@@ -41,17 +41,17 @@ tls_mac_check_20:
     .word 0x00050293  # addi x5, x10, 0
     .word 0x00010313  # addi x6, x2, 0
     .word 0x11828393  # addi x7, x5, 280
-    .word 0x7ac00f6f  # jal x30, 1964
+    .word 0x6f400f6f  # jal x30, 1780
     # parameter 1: a word
     .word 0x10b12c23  # sw x11, 280(x2)
     # parameter 2: an array
     .word 0x00060293  # addi x5, x12, 0
     .word 0x11c10313  # addi x6, x2, 284
     .word 0x01428393  # addi x7, x5, 20
-    .word 0x79800f6f  # jal x30, 1944
+    .word 0x6e000f6f  # jal x30, 1760
     # the body
     .word 0x11812503  # lw x10, 280(x2)
-    .word 0x00000693  # addi x13, x0, 0
+    .word 0x00000793  # addi x15, x0, 0
     .word 0x10400293  # addi x5, x0, 260
     .word 0x40a285b3  # sub x11, x5, x10
     .word 0x0025d613  # srli x12, x11, 2
@@ -62,13 +62,14 @@ tls_mac_check_20:
     .word 0x00000b13  # addi x22, x0, 0
     .word 0x00000b93  # addi x23, x0, 0
     .word 0x00000c13  # addi x24, x0, 0
-    .word 0x00000693  # addi x13, x0, 0
+    .word 0xfff00793  # addi x15, x0, -1
+    .word 0x00178793  # addi x15, x15, 1
     .word 0x03800293  # addi x5, x0, 56
-    .word 0x02d28733  # mul x14, x5, x13
-    .word 0x00270db3  # add x27, x14, x2
+    .word 0x02f286b3  # mul x13, x5, x15
+    .word 0x00268db3  # add x27, x13, x2
     .word 0x00e00293  # addi x5, x0, 14
-    .word 0x02d282b3  # mul x5, x5, x13
-    .word 0x40c287b3  # sub x15, x5, x12
+    .word 0x02f282b3  # mul x5, x5, x15
+    .word 0x40c28733  # sub x14, x5, x12
     .word 0x000dc283  # lbu x5, 0(x27)
     .word 0x001dc303  # lbu x6, 1(x27)
     .word 0x00831313  # slli x6, x6, 8
@@ -79,7 +80,7 @@ tls_mac_check_20:
     .word 0x0062e8b3  # or x17, x5, x6
     .word 0x01089313  # slli x6, x17, 16
     .word 0x01036333  # or x6, x6, x16
-    .word 0x0067b393  # sltiu x7, x15, 6
+    .word 0x00673393  # sltiu x7, x14, 6
     .word 0x407003b3  # sub x7, x0, x7
     .word 0x00737333  # and x6, x6, x7
     .word 0x00696933  # or x18, x18, x6
@@ -93,7 +94,7 @@ tls_mac_check_20:
     .word 0x0062e8b3  # or x17, x5, x6
     .word 0x01089313  # slli x6, x17, 16
     .word 0x01036333  # or x6, x6, x16
-    .word 0x00178393  # addi x7, x15, 1
+    .word 0x00170393  # addi x7, x14, 1
     .word 0x0063b393  # sltiu x7, x7, 6
     .word 0x407003b3  # sub x7, x0, x7
     .word 0x00737333  # and x6, x6, x7
@@ -108,7 +109,7 @@ tls_mac_check_20:
     .word 0x0062e8b3  # or x17, x5, x6
     .word 0x01089313  # slli x6, x17, 16
     .word 0x01036333  # or x6, x6, x16
-    .word 0x00278393  # addi x7, x15, 2
+    .word 0x00270393  # addi x7, x14, 2
     .word 0x0063b393  # sltiu x7, x7, 6
     .word 0x407003b3  # sub x7, x0, x7
     .word 0x00737333  # and x6, x6, x7
@@ -123,7 +124,7 @@ tls_mac_check_20:
     .word 0x0062e8b3  # or x17, x5, x6
     .word 0x01089313  # slli x6, x17, 16
     .word 0x01036333  # or x6, x6, x16
-    .word 0x00378393  # addi x7, x15, 3
+    .word 0x00370393  # addi x7, x14, 3
     .word 0x0063b393  # sltiu x7, x7, 6
     .word 0x407003b3  # sub x7, x0, x7
     .word 0x00737333  # and x6, x6, x7
@@ -138,7 +139,7 @@ tls_mac_check_20:
     .word 0x0062e8b3  # or x17, x5, x6
     .word 0x01089313  # slli x6, x17, 16
     .word 0x01036333  # or x6, x6, x16
-    .word 0x00478393  # addi x7, x15, 4
+    .word 0x00470393  # addi x7, x14, 4
     .word 0x0063b393  # sltiu x7, x7, 6
     .word 0x407003b3  # sub x7, x0, x7
     .word 0x00737333  # and x6, x6, x7
@@ -153,7 +154,7 @@ tls_mac_check_20:
     .word 0x0062e8b3  # or x17, x5, x6
     .word 0x01089313  # slli x6, x17, 16
     .word 0x01036333  # or x6, x6, x16
-    .word 0x00578393  # addi x7, x15, 5
+    .word 0x00570393  # addi x7, x14, 5
     .word 0x0063b393  # sltiu x7, x7, 6
     .word 0x407003b3  # sub x7, x0, x7
     .word 0x00737333  # and x6, x6, x7
@@ -168,7 +169,7 @@ tls_mac_check_20:
     .word 0x0062e8b3  # or x17, x5, x6
     .word 0x01089313  # slli x6, x17, 16
     .word 0x01036333  # or x6, x6, x16
-    .word 0x00678393  # addi x7, x15, 6
+    .word 0x00670393  # addi x7, x14, 6
     .word 0x0063b393  # sltiu x7, x7, 6
     .word 0x407003b3  # sub x7, x0, x7
     .word 0x00737333  # and x6, x6, x7
@@ -183,7 +184,7 @@ tls_mac_check_20:
     .word 0x0062e8b3  # or x17, x5, x6
     .word 0x01089313  # slli x6, x17, 16
     .word 0x01036333  # or x6, x6, x16
-    .word 0x00778393  # addi x7, x15, 7
+    .word 0x00770393  # addi x7, x14, 7
     .word 0x0063b393  # sltiu x7, x7, 6
     .word 0x407003b3  # sub x7, x0, x7
     .word 0x00737333  # and x6, x6, x7
@@ -198,7 +199,7 @@ tls_mac_check_20:
     .word 0x0062e8b3  # or x17, x5, x6
     .word 0x01089313  # slli x6, x17, 16
     .word 0x01036333  # or x6, x6, x16
-    .word 0x00878393  # addi x7, x15, 8
+    .word 0x00870393  # addi x7, x14, 8
     .word 0x0063b393  # sltiu x7, x7, 6
     .word 0x407003b3  # sub x7, x0, x7
     .word 0x00737333  # and x6, x6, x7
@@ -213,7 +214,7 @@ tls_mac_check_20:
     .word 0x0062e8b3  # or x17, x5, x6
     .word 0x01089313  # slli x6, x17, 16
     .word 0x01036333  # or x6, x6, x16
-    .word 0x00978393  # addi x7, x15, 9
+    .word 0x00970393  # addi x7, x14, 9
     .word 0x0063b393  # sltiu x7, x7, 6
     .word 0x407003b3  # sub x7, x0, x7
     .word 0x00737333  # and x6, x6, x7
@@ -228,7 +229,7 @@ tls_mac_check_20:
     .word 0x0062e8b3  # or x17, x5, x6
     .word 0x01089313  # slli x6, x17, 16
     .word 0x01036333  # or x6, x6, x16
-    .word 0x00a78393  # addi x7, x15, 10
+    .word 0x00a70393  # addi x7, x14, 10
     .word 0x0063b393  # sltiu x7, x7, 6
     .word 0x407003b3  # sub x7, x0, x7
     .word 0x00737333  # and x6, x6, x7
@@ -243,7 +244,7 @@ tls_mac_check_20:
     .word 0x0062e8b3  # or x17, x5, x6
     .word 0x01089313  # slli x6, x17, 16
     .word 0x01036333  # or x6, x6, x16
-    .word 0x00b78393  # addi x7, x15, 11
+    .word 0x00b70393  # addi x7, x14, 11
     .word 0x0063b393  # sltiu x7, x7, 6
     .word 0x407003b3  # sub x7, x0, x7
     .word 0x00737333  # and x6, x6, x7
@@ -258,7 +259,7 @@ tls_mac_check_20:
     .word 0x0062e8b3  # or x17, x5, x6
     .word 0x01089313  # slli x6, x17, 16
     .word 0x01036333  # or x6, x6, x16
-    .word 0x00c78393  # addi x7, x15, 12
+    .word 0x00c70393  # addi x7, x14, 12
     .word 0x0063b393  # sltiu x7, x7, 6
     .word 0x407003b3  # sub x7, x0, x7
     .word 0x00737333  # and x6, x6, x7
@@ -273,15 +274,13 @@ tls_mac_check_20:
     .word 0x0062e8b3  # or x17, x5, x6
     .word 0x01089313  # slli x6, x17, 16
     .word 0x01036333  # or x6, x6, x16
-    .word 0x00d78393  # addi x7, x15, 13
+    .word 0x00d70393  # addi x7, x14, 13
     .word 0x0063b393  # sltiu x7, x7, 6
     .word 0x407003b3  # sub x7, x0, x7
     .word 0x00737333  # and x6, x6, x7
     .word 0x006c6c33  # or x24, x24, x6
-    .word 0x00168693  # addi x13, x13, 1
-    .word 0x0056b293  # sltiu x5, x13, 5
+    .word 0xffc78293  # addi x5, x15, -4
     .word 0xc8029ee3  # bne x5, x0, -868
-    .word 0xfff68693  # addi x13, x13, -1
     .word 0x00767293  # andi x5, x12, 7
     .word 0x00365313  # srli x6, x12, 3
     .word 0x00628833  # add x16, x5, x6
@@ -290,7 +289,7 @@ tls_mac_check_20:
     .word 0x00628cb3  # add x25, x5, x6
     .word 0x001cf293  # andi x5, x25, 1
     .word 0x405008b3  # sub x17, x0, x5
-    .word 0x00090793  # addi x15, x18, 0
+    .word 0x00090713  # addi x14, x18, 0
     .word 0x0129c2b3  # xor x5, x19, x18
     .word 0x0112f833  # and x16, x5, x17
     .word 0x01094933  # xor x18, x18, x16
@@ -309,13 +308,13 @@ tls_mac_check_20:
     .word 0x017c42b3  # xor x5, x24, x23
     .word 0x0112f833  # and x16, x5, x17
     .word 0x010bcbb3  # xor x23, x23, x16
-    .word 0x0187c2b3  # xor x5, x15, x24
+    .word 0x018742b3  # xor x5, x14, x24
     .word 0x0112f833  # and x16, x5, x17
     .word 0x010c4c33  # xor x24, x24, x16
     .word 0x001cd293  # srli x5, x25, 1
     .word 0x0012f293  # andi x5, x5, 1
     .word 0x405008b3  # sub x17, x0, x5
-    .word 0x00090793  # addi x15, x18, 0
+    .word 0x00090713  # addi x14, x18, 0
     .word 0x00098613  # addi x12, x19, 0
     .word 0x012a42b3  # xor x5, x20, x18
     .word 0x0112f833  # and x16, x5, x17
@@ -332,7 +331,7 @@ tls_mac_check_20:
     .word 0x016c42b3  # xor x5, x24, x22
     .word 0x0112f833  # and x16, x5, x17
     .word 0x010b4b33  # xor x22, x22, x16
-    .word 0x0177c2b3  # xor x5, x15, x23
+    .word 0x017742b3  # xor x5, x14, x23
     .word 0x0112f833  # and x16, x5, x17
     .word 0x010bcbb3  # xor x23, x23, x16
     .word 0x018642b3  # xor x5, x12, x24
@@ -341,7 +340,7 @@ tls_mac_check_20:
     .word 0x002cd293  # srli x5, x25, 2
     .word 0x0012f293  # andi x5, x5, 1
     .word 0x405008b3  # sub x17, x0, x5
-    .word 0x00090793  # addi x15, x18, 0
+    .word 0x00090713  # addi x14, x18, 0
     .word 0x00098613  # addi x12, x19, 0
     .word 0x000a0c93  # addi x25, x20, 0
     .word 0x000a8d13  # addi x26, x21, 0
@@ -354,7 +353,7 @@ tls_mac_check_20:
     .word 0x014c42b3  # xor x5, x24, x20
     .word 0x0112f833  # and x16, x5, x17
     .word 0x010a4a33  # xor x20, x20, x16
-    .word 0x0157c2b3  # xor x5, x15, x21
+    .word 0x015742b3  # xor x5, x14, x21
     .word 0x0112f833  # and x16, x5, x17
     .word 0x010acab3  # xor x21, x21, x16
     .word 0x016642b3  # xor x5, x12, x22
@@ -437,63 +436,18 @@ tls_mac_check_20:
     .word 0x0162c2b3  # xor x5, x5, x22
     .word 0x0112f833  # and x16, x5, x17
     .word 0x010b4b33  # xor x22, x22, x16
-    .word 0x11c14283  # lbu x5, 284(x2)
-    .word 0x11d14303  # lbu x6, 285(x2)
-    .word 0x00831313  # slli x6, x6, 8
-    .word 0x0062e8b3  # or x17, x5, x6
-    .word 0x11e14303  # lbu x6, 286(x2)
-    .word 0x01031313  # slli x6, x6, 16
-    .word 0x0068e2b3  # or x5, x17, x6
-    .word 0x11f14303  # lbu x6, 287(x2)
-    .word 0x01831313  # slli x6, x6, 24
-    .word 0x0062e8b3  # or x17, x5, x6
+    .word 0x11c12883  # lw x17, 284(x2)
     .word 0x01194833  # xor x16, x18, x17
-    .word 0x12014283  # lbu x5, 288(x2)
-    .word 0x12114303  # lbu x6, 289(x2)
-    .word 0x00831313  # slli x6, x6, 8
-    .word 0x0062e8b3  # or x17, x5, x6
-    .word 0x12214303  # lbu x6, 290(x2)
-    .word 0x01031313  # slli x6, x6, 16
-    .word 0x0068e2b3  # or x5, x17, x6
-    .word 0x12314303  # lbu x6, 291(x2)
-    .word 0x01831313  # slli x6, x6, 24
-    .word 0x0062e8b3  # or x17, x5, x6
+    .word 0x12012883  # lw x17, 288(x2)
     .word 0x0119c333  # xor x6, x19, x17
     .word 0x00686833  # or x16, x16, x6
-    .word 0x12414283  # lbu x5, 292(x2)
-    .word 0x12514303  # lbu x6, 293(x2)
-    .word 0x00831313  # slli x6, x6, 8
-    .word 0x0062e8b3  # or x17, x5, x6
-    .word 0x12614303  # lbu x6, 294(x2)
-    .word 0x01031313  # slli x6, x6, 16
-    .word 0x0068e2b3  # or x5, x17, x6
-    .word 0x12714303  # lbu x6, 295(x2)
-    .word 0x01831313  # slli x6, x6, 24
-    .word 0x0062e8b3  # or x17, x5, x6
+    .word 0x12412883  # lw x17, 292(x2)
     .word 0x011a4333  # xor x6, x20, x17
     .word 0x00686833  # or x16, x16, x6
-    .word 0x12814283  # lbu x5, 296(x2)
-    .word 0x12914303  # lbu x6, 297(x2)
-    .word 0x00831313  # slli x6, x6, 8
-    .word 0x0062e8b3  # or x17, x5, x6
-    .word 0x12a14303  # lbu x6, 298(x2)
-    .word 0x01031313  # slli x6, x6, 16
-    .word 0x0068e2b3  # or x5, x17, x6
-    .word 0x12b14303  # lbu x6, 299(x2)
-    .word 0x01831313  # slli x6, x6, 24
-    .word 0x0062e8b3  # or x17, x5, x6
+    .word 0x12812883  # lw x17, 296(x2)
     .word 0x011ac333  # xor x6, x21, x17
     .word 0x00686833  # or x16, x16, x6
-    .word 0x12c14283  # lbu x5, 300(x2)
-    .word 0x12d14303  # lbu x6, 301(x2)
-    .word 0x00831313  # slli x6, x6, 8
-    .word 0x0062e8b3  # or x17, x5, x6
-    .word 0x12e14303  # lbu x6, 302(x2)
-    .word 0x01031313  # slli x6, x6, 16
-    .word 0x0068e2b3  # or x5, x17, x6
-    .word 0x12f14303  # lbu x6, 303(x2)
-    .word 0x01831313  # slli x6, x6, 24
-    .word 0x0062e8b3  # or x17, x5, x6
+    .word 0x12c12883  # lw x17, 300(x2)
     .word 0x011b4333  # xor x6, x22, x17
     .word 0x00686833  # or x16, x16, x6
     .word 0x00183293  # sltiu x5, x16, 1

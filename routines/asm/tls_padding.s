@@ -1,4 +1,4 @@
-# tls_padding: made by factc 1.0.0 function; 109 words, 304 bytes of stack, profile 1
+# tls_padding: made by factc 1.0.0 function; 108 words, 304 bytes of stack, profile 1
     .option push
     .option norvc
     .option norelax
@@ -23,7 +23,7 @@ tls_padding:
     .word 0x00050293  # addi x5, x10, 0
     .word 0x00010313  # addi x6, x2, 0
     .word 0x10028393  # addi x7, x5, 256
-    .word 0x14800f6f  # jal x30, 328
+    .word 0x14400f6f  # jal x30, 324
     # parameter 1: a word
     .word 0x10b12023  # sw x11, 256(x2)
     # parameter 2: a word
@@ -37,7 +37,8 @@ tls_padding:
     .word 0x00000713  # addi x14, x0, 0
     .word 0x0ff00293  # addi x5, x0, 255
     .word 0x40d287b3  # sub x15, x5, x13
-    .word 0x00000813  # addi x16, x0, 0
+    .word 0xfff00813  # addi x16, x0, -1
+    .word 0x00180813  # addi x16, x16, 1
     .word 0x00281893  # slli x17, x16, 2
     .word 0x00288933  # add x18, x17, x2
     .word 0x00094303  # lbu x6, 0(x18)
@@ -64,10 +65,8 @@ tls_padding:
     .word 0x00737333  # and x6, x6, x7
     .word 0x00676733  # or x14, x14, x6
     .word 0xfff78793  # addi x15, x15, -1
-    .word 0x00180813  # addi x16, x16, 1
-    .word 0x04083293  # sltiu x5, x16, 64
+    .word 0xfc180293  # addi x5, x16, -63
     .word 0xf80298e3  # bne x5, x0, -112
-    .word 0xfff80813  # addi x16, x16, -1
     .word 0x00b532b3  # sltu x5, x10, x11
     .word 0x00000313  # addi x6, x0, 0
     .word 0x40b503b3  # sub x7, x10, x11

@@ -1,4 +1,4 @@
-# xtea_decrypt: made by factc 1.0.0 function; 90 words, 64 bytes of stack, profile 1
+# xtea_decrypt: made by factc 1.0.0 function; 89 words, 64 bytes of stack, profile 1
     .option push
     .option norvc
     .option norelax
@@ -47,7 +47,8 @@ xtea_decrypt:
     .word 0x01412583  # lw x11, 20(x2)
     .word 0xc6ef3637  # lui x12, 0xc6ef3
     .word 0x72060613  # addi x12, x12, 1824
-    .word 0x00000693  # addi x13, x0, 0
+    .word 0xfff00693  # addi x13, x0, -1
+    .word 0x00168693  # addi x13, x13, 1
     .word 0x00451313  # slli x6, x10, 4
     .word 0x00555393  # srli x7, x10, 5
     .word 0x00734333  # xor x6, x6, x7
@@ -72,10 +73,8 @@ xtea_decrypt:
     .word 0x008603b3  # add x7, x12, x8
     .word 0x00734333  # xor x6, x6, x7
     .word 0x40650533  # sub x10, x10, x6
-    .word 0x00168693  # addi x13, x13, 1
-    .word 0x0206b293  # sltiu x5, x13, 32
+    .word 0xfe168293  # addi x5, x13, -31
     .word 0xf8029ce3  # bne x5, x0, -104
-    .word 0xfff68693  # addi x13, x13, -1
     .word 0x00a12823  # sw x10, 16(x2)
     .word 0x00b12a23  # sw x11, 20(x2)
     # the result

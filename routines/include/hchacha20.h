@@ -6,7 +6,7 @@
 #define FACT_hchacha20_H
 #include <stdbool.h>
 #include <stdint.h>
-#define hchacha20_STACK_BYTES 160
+#define hchacha20_STACK_BYTES 144
 #ifdef __cplusplus
 extern "C" {
 #endif

@@ -1,4 +1,4 @@
-# adler32: made by factc 1.0.0 function; 128 words, 112 bytes of stack, profile 1
+# adler32: made by factc 1.0.0 function; 124 words, 112 bytes of stack, profile 1
     .option push
     .option norvc
     .option norelax
@@ -17,8 +17,6 @@ adler32:
     .cfi_offset 18, -16
     .word 0x01312223  # sw x19, 4(x2)
     .cfi_offset 19, -12
-    .word 0x01412423  # sw x20, 8(x2)
-    .cfi_offset 20, -8
     # arguments that are needed behind the body
     # the frame's base
     .word 0xfa010113  # addi x2, x2, -96
@@ -39,11 +37,10 @@ adler32:
     # the body
     .word 0x00012503  # lw x10, 0(x2)
     .word 0x04412583  # lw x11, 68(x2)
-    .word 0x00000793  # addi x15, x0, 0
-    .word 0x00000893  # addi x17, x0, 0
-    .word 0x00000913  # addi x18, x0, 0
-    .word 0x00010a37  # lui x20, 0x00010
-    .word 0xff1a0a13  # addi x20, x20, -15
+    .word 0x00000713  # addi x14, x0, 0
+    .word 0x00000813  # addi x16, x0, 0
+    .word 0x000109b7  # lui x19, 0x00010
+    .word 0xff198993  # addi x19, x19, -15
     .word 0x01051613  # slli x12, x10, 16
     .word 0x01065613  # srli x12, x12, 16
     .word 0x01055693  # srli x13, x10, 16
@@ -53,72 +50,71 @@ adler32:
     .word 0x405002b3  # sub x5, x0, x5
     .word 0x00734333  # xor x6, x6, x7
     .word 0x00537333  # and x6, x6, x5
-    .word 0x0063c733  # xor x14, x7, x6
+    .word 0x0063c8b3  # xor x17, x7, x6
     .word 0x04012623  # sw x0, 76(x2)
-    .word 0x00375293  # srli x5, x14, 3
+    .word 0x0038d293  # srli x5, x17, 3
     .word 0x04512823  # sw x5, 80(x2)
     .word 0x04c12303  # lw x6, 76(x2)
     .word 0x05012283  # lw x5, 80(x2)
     .word 0x005332b3  # sltu x5, x6, x5
     .word 0x00029463  # bne x5, x0, 8
-    .word 0x04c0006f  # jal x0, 76
-    .word 0x00030793  # addi x15, x6, 0
-    .word 0x00379813  # slli x16, x15, 3
-    .word 0x00000893  # addi x17, x0, 0
-    .word 0x01180333  # add x6, x16, x17
+    .word 0x0480006f  # jal x0, 72
+    .word 0x00030713  # addi x14, x6, 0
+    .word 0x00371793  # slli x15, x14, 3
+    .word 0xfff00813  # addi x16, x0, -1
+    .word 0x00180813  # addi x16, x16, 1
+    .word 0x01078333  # add x6, x15, x16
     .word 0x00230333  # add x6, x6, x2
     .word 0x00434303  # lbu x6, 4(x6)
     .word 0x00660633  # add x12, x12, x6
     .word 0x00c686b3  # add x13, x13, x12
-    .word 0x00188893  # addi x17, x17, 1
-    .word 0x0088b293  # sltiu x5, x17, 8
+    .word 0xff980293  # addi x5, x16, -7
     .word 0xfe0292e3  # bne x5, x0, -28
-    .word 0xfff88893  # addi x17, x17, -1
-    .word 0x00178793  # addi x15, x15, 1
+    .word 0x00170713  # addi x14, x14, 1
     .word 0x05012283  # lw x5, 80(x2)
-    .word 0x0057b2b3  # sltu x5, x15, x5
-    .word 0xfc0294e3  # bne x5, x0, -56
-    .word 0xfff78793  # addi x15, x15, -1
+    .word 0x005732b3  # sltu x5, x14, x5
+    .word 0xfc0296e3  # bne x5, x0, -52
+    .word 0xfff70713  # addi x14, x14, -1
     .word 0x0040006f  # jal x0, 4
-    .word 0x00375293  # srli x5, x14, 3
+    .word 0x0038d293  # srli x5, x17, 3
     .word 0x00329293  # slli x5, x5, 3
     .word 0x04512623  # sw x5, 76(x2)
-    .word 0x04e12823  # sw x14, 80(x2)
+    .word 0x05112823  # sw x17, 80(x2)
     .word 0x04c12303  # lw x6, 76(x2)
     .word 0x05012283  # lw x5, 80(x2)
     .word 0x005332b3  # sltu x5, x6, x5
     .word 0x00029463  # bne x5, x0, 8
     .word 0x0300006f  # jal x0, 48
-    .word 0x00030913  # addi x18, x6, 0
-    .word 0x00290333  # add x6, x18, x2
+    .word 0x00030893  # addi x17, x6, 0
+    .word 0x00288333  # add x6, x17, x2
     .word 0x00434303  # lbu x6, 4(x6)
     .word 0x00660633  # add x12, x12, x6
     .word 0x00c686b3  # add x13, x13, x12
-    .word 0x00190913  # addi x18, x18, 1
+    .word 0x00188893  # addi x17, x17, 1
     .word 0x05012283  # lw x5, 80(x2)
-    .word 0x005932b3  # sltu x5, x18, x5
+    .word 0x0058b2b3  # sltu x5, x17, x5
     .word 0xfe0292e3  # bne x5, x0, -28
-    .word 0xfff90913  # addi x18, x18, -1
+    .word 0xfff88893  # addi x17, x17, -1
     .word 0x0040006f  # jal x0, 4
-    .word 0x01065993  # srli x19, x12, 16
+    .word 0x01065913  # srli x18, x12, 16
     .word 0x01061293  # slli x5, x12, 16
     .word 0x0102d293  # srli x5, x5, 16
-    .word 0x00499313  # slli x6, x19, 4
+    .word 0x00491313  # slli x6, x18, 4
     .word 0x006282b3  # add x5, x5, x6
-    .word 0x41328633  # sub x12, x5, x19
-    .word 0x01463333  # sltu x6, x12, x20
+    .word 0x41228633  # sub x12, x5, x18
+    .word 0x01363333  # sltu x6, x12, x19
     .word 0xfff30313  # addi x6, x6, -1
-    .word 0x006a7333  # and x6, x20, x6
+    .word 0x0069f333  # and x6, x19, x6
     .word 0x40660633  # sub x12, x12, x6
-    .word 0x0106d993  # srli x19, x13, 16
+    .word 0x0106d913  # srli x18, x13, 16
     .word 0x01069293  # slli x5, x13, 16
     .word 0x0102d293  # srli x5, x5, 16
-    .word 0x00499313  # slli x6, x19, 4
+    .word 0x00491313  # slli x6, x18, 4
     .word 0x006282b3  # add x5, x5, x6
-    .word 0x413286b3  # sub x13, x5, x19
-    .word 0x0146b333  # sltu x6, x13, x20
+    .word 0x412286b3  # sub x13, x5, x18
+    .word 0x0136b333  # sltu x6, x13, x19
     .word 0xfff30313  # addi x6, x6, -1
-    .word 0x006a7333  # and x6, x20, x6
+    .word 0x0069f333  # and x6, x19, x6
     .word 0x406686b3  # sub x13, x13, x6
     .word 0x01069293  # slli x5, x13, 16
     .word 0x00c2e2b3  # or x5, x5, x12
@@ -132,8 +128,6 @@ adler32:
     .cfi_restore 18
     .word 0x0042a983  # lw x19, 4(x5)
     .cfi_restore 19
-    .word 0x0082aa03  # lw x20, 8(x5)
-    .cfi_restore 20
     # the caller's x2
     .word 0x01028293  # addi x5, x5, 16
     .cfi_def_cfa 5, 0

@@ -6,7 +6,7 @@
 #define FACT_aes128_ctr_H
 #include <stdbool.h>
 #include <stdint.h>
-#define aes128_ctr_STACK_BYTES 1024
+#define aes128_ctr_STACK_BYTES 976
 #ifdef __cplusplus
 extern "C" {
 #endif

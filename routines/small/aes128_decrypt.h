@@ -6,7 +6,7 @@
 #define FACT_aes128_decrypt_H
 #include <stdbool.h>
 #include <stdint.h>
-#define aes128_decrypt_STACK_BYTES 688
+#define aes128_decrypt_STACK_BYTES 672
 #ifdef __cplusplus
 extern "C" {
 #endif

@@ -6,7 +6,7 @@
 #define FACT_aes128_decrypt_2_H
 #include <stdbool.h>
 #include <stdint.h>
-#define aes128_decrypt_2_STACK_BYTES 736
+#define aes128_decrypt_2_STACK_BYTES 672
 #ifdef __cplusplus
 extern "C" {
 #endif

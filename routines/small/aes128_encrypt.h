@@ -6,7 +6,7 @@
 #define FACT_aes128_encrypt_H
 #include <stdbool.h>
 #include <stdint.h>
-#define aes128_encrypt_STACK_BYTES 320
+#define aes128_encrypt_STACK_BYTES 304
 #ifdef __cplusplus
 extern "C" {
 #endif

@@ -6,7 +6,7 @@
 #define FACT_aes128_encrypt_2_H
 #include <stdbool.h>
 #include <stdint.h>
-#define aes128_encrypt_2_STACK_BYTES 704
+#define aes128_encrypt_2_STACK_BYTES 640
 #ifdef __cplusplus
 extern "C" {
 #endif

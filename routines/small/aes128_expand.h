@@ -6,7 +6,7 @@
 #define FACT_aes128_expand_H
 #include <stdbool.h>
 #include <stdint.h>
-#define aes128_expand_STACK_BYTES 640
+#define aes128_expand_STACK_BYTES 608
 #ifdef __cplusplus
 extern "C" {
 #endif

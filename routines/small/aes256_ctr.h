@@ -6,7 +6,7 @@
 #define FACT_aes256_ctr_H
 #include <stdbool.h>
 #include <stdint.h>
-#define aes256_ctr_STACK_BYTES 1152
+#define aes256_ctr_STACK_BYTES 1104
 #ifdef __cplusplus
 extern "C" {
 #endif

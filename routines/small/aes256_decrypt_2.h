@@ -6,7 +6,7 @@
 #define FACT_aes256_decrypt_2_H
 #include <stdbool.h>
 #include <stdint.h>
-#define aes256_decrypt_2_STACK_BYTES 864
+#define aes256_decrypt_2_STACK_BYTES 800
 #ifdef __cplusplus
 extern "C" {
 #endif

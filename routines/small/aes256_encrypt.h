@@ -6,7 +6,7 @@
 #define FACT_aes256_encrypt_H
 #include <stdbool.h>
 #include <stdint.h>
-#define aes256_encrypt_STACK_BYTES 368
+#define aes256_encrypt_STACK_BYTES 352
 #ifdef __cplusplus
 extern "C" {
 #endif

@@ -6,7 +6,7 @@
 #define FACT_aes256_encrypt_2_H
 #include <stdbool.h>
 #include <stdint.h>
-#define aes256_encrypt_2_STACK_BYTES 832
+#define aes256_encrypt_2_STACK_BYTES 768
 #ifdef __cplusplus
 extern "C" {
 #endif

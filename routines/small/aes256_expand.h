@@ -6,7 +6,7 @@
 #define FACT_aes256_expand_H
 #include <stdbool.h>
 #include <stdint.h>
-#define aes256_expand_STACK_BYTES 752
+#define aes256_expand_STACK_BYTES 720
 #ifdef __cplusplus
 extern "C" {
 #endif

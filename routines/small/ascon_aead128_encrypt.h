@@ -6,7 +6,7 @@
 #define FACT_ascon_aead128_encrypt_H
 #include <stdbool.h>
 #include <stdint.h>
-#define ascon_aead128_encrypt_STACK_BYTES 400
+#define ascon_aead128_encrypt_STACK_BYTES 384
 #ifdef __cplusplus
 extern "C" {
 #endif

@@ -1,4 +1,4 @@
-# ascon_aead128_encrypt: made by factc 1.0.0 function; 625 words, 400 bytes of stack, profile 1
+# ascon_aead128_encrypt: made by factc 1.0.0 function; 576 words, 384 bytes of stack, profile 1
     .option push
     .option norvc
     .option norelax
@@ -46,8 +46,8 @@ ascon_aead128_encrypt:
     .word 0x04f12423  # sw x15, 72(x2)
     .word 0x05012623  # sw x16, 76(x2)
     # the frame's base
-    .word 0xec010113  # addi x2, x2, -320
-    .cfi_def_cfa 2, 400
+    .word 0xed010113  # addi x2, x2, -304
+    .cfi_def_cfa 2, 384
     # parameter 0: an array
     .word 0x00050293  # addi x5, x10, 0
     .word 0x00010313  # addi x6, x2, 0
@@ -92,7 +92,7 @@ ascon_aead128_encrypt:
     .word 0x00000513  # addi x10, x0, 0
     .word 0x800002b7  # lui x5, 0x80000
     .word 0x00028293  # addi x5, x5, 0
-    .word 0x12512023  # sw x5, 288(x2)
+    .word 0x10512623  # sw x5, 268(x2)
     .word 0x0b800313  # addi x6, x0, 184
     .word 0x00230333  # add x6, x6, x2
     .word 0x02800393  # addi x7, x0, 40
@@ -137,53 +137,38 @@ ascon_aead128_encrypt:
     .word 0x808c02b7  # lui x5, 0x808c0
     .word 0x00128293  # addi x5, x5, 1
     .word 0x0a512e23  # sw x5, 188(x2)
-    .word 0x12012423  # sw x0, 296(x2)
-    .word 0x00400293  # addi x5, x0, 4
-    .word 0x12512623  # sw x5, 300(x2)
-    .word 0x12812303  # lw x6, 296(x2)
-    .word 0x12c12283  # lw x5, 300(x2)
-    .word 0x005332b3  # sltu x5, x6, x5
-    .word 0x00029463  # bne x5, x0, 8
-    .word 0x0e80006f  # jal x0, 232
-    .word 0x0e612c23  # sw x6, 248(x2)
-    .word 0x00130313  # addi x6, x6, 1
-    .word 0x12612423  # sw x6, 296(x2)
-    .word 0x0f812283  # lw x5, 248(x2)
-    .word 0x0012d293  # srli x5, x5, 1
+    .word 0xfff00513  # addi x10, x0, -1
+    .word 0x00150513  # addi x10, x10, 1
+    .word 0x00155293  # srli x5, x10, 1
     .word 0x00329293  # slli x5, x5, 3
     .word 0x00428293  # addi x5, x5, 4
-    .word 0x0f812303  # lw x6, 248(x2)
-    .word 0x00137313  # andi x6, x6, 1
+    .word 0x00157313  # andi x6, x10, 1
     .word 0x00231313  # slli x6, x6, 2
     .word 0x406285b3  # sub x11, x5, x6
-    .word 0x002582b3  # add x5, x11, x2
-    .word 0x0002c283  # lbu x5, 0(x5)
     .word 0x00258333  # add x6, x11, x2
-    .word 0x00134303  # lbu x6, 1(x6)
-    .word 0x00831313  # slli x6, x6, 8
-    .word 0x0062e8b3  # or x17, x5, x6
-    .word 0x0f812283  # lw x5, 248(x2)
+    .word 0x00034303  # lbu x6, 0(x6)
+    .word 0x002583b3  # add x7, x11, x2
+    .word 0x0013c383  # lbu x7, 1(x7)
+    .word 0x00839393  # slli x7, x7, 8
+    .word 0x00736333  # or x6, x6, x7
     .word 0x002583b3  # add x7, x11, x2
     .word 0x0023c383  # lbu x7, 2(x7)
     .word 0x01039393  # slli x7, x7, 16
-    .word 0x0078e333  # or x6, x17, x7
+    .word 0x00736333  # or x6, x6, x7
     .word 0x002583b3  # add x7, x11, x2
     .word 0x0033c383  # lbu x7, 3(x7)
     .word 0x01839393  # slli x7, x7, 24
     .word 0x00736333  # or x6, x6, x7
-    .word 0x00229293  # slli x5, x5, 2
+    .word 0x00251293  # slli x5, x10, 2
     .word 0x002282b3  # add x5, x5, x2
     .word 0x0e62a023  # sw x6, 224(x5)
-    .word 0x0f812283  # lw x5, 248(x2)
-    .word 0x0f812303  # lw x6, 248(x2)
-    .word 0x00231313  # slli x6, x6, 2
+    .word 0x00251313  # slli x6, x10, 2
     .word 0x00230333  # add x6, x6, x2
     .word 0x0e032303  # lw x6, 224(x6)
-    .word 0x00229293  # slli x5, x5, 2
+    .word 0x00251293  # slli x5, x10, 2
     .word 0x002282b3  # add x5, x5, x2
     .word 0x0c62a023  # sw x6, 192(x5)
-    .word 0x0f812283  # lw x5, 248(x2)
-    .word 0x00628613  # addi x12, x5, 6
+    .word 0x00650613  # addi x12, x10, 6
     .word 0x00261493  # slli x9, x12, 2
     .word 0x002484b3  # add x9, x9, x2
     .word 0x002582b3  # add x5, x11, x2
@@ -191,17 +176,18 @@ ascon_aead128_encrypt:
     .word 0x00258333  # add x6, x11, x2
     .word 0x01134303  # lbu x6, 17(x6)
     .word 0x00831313  # slli x6, x6, 8
-    .word 0x0062e8b3  # or x17, x5, x6
+    .word 0x0062e2b3  # or x5, x5, x6
     .word 0x00258333  # add x6, x11, x2
     .word 0x01234303  # lbu x6, 18(x6)
     .word 0x01031313  # slli x6, x6, 16
-    .word 0x0068e2b3  # or x5, x17, x6
+    .word 0x0062e2b3  # or x5, x5, x6
     .word 0x00258333  # add x6, x11, x2
     .word 0x01334303  # lbu x6, 19(x6)
     .word 0x01831313  # slli x6, x6, 24
     .word 0x0062e2b3  # or x5, x5, x6
     .word 0x0a54ac23  # sw x5, 184(x9)
-    .word 0xf0dff06f  # jal x0, -244
+    .word 0xffd50293  # addi x5, x10, -3
+    .word 0xf2029ee3  # bne x5, x0, -196
     .word 0x0f412283  # lw x5, 244(x2)
     .word 0x0012b293  # sltiu x5, x5, 1
     .word 0x00000313  # addi x6, x0, 0
@@ -212,32 +198,32 @@ ascon_aead128_encrypt:
     .word 0x00734333  # xor x6, x6, x7
     .word 0x00537333  # and x6, x6, x5
     .word 0x0063c2b3  # xor x5, x7, x6
-    .word 0x0e512e23  # sw x5, 252(x2)
-    .word 0x0fc12283  # lw x5, 252(x2)
+    .word 0x0e512c23  # sw x5, 248(x2)
+    .word 0x0f812283  # lw x5, 248(x2)
     .word 0x0f012303  # lw x6, 240(x2)
     .word 0x00435313  # srli x6, x6, 4
     .word 0x006282b3  # add x5, x5, x6
     .word 0x00128293  # addi x5, x5, 1
-    .word 0x10512023  # sw x5, 256(x2)
-    .word 0x12012423  # sw x0, 296(x2)
+    .word 0x0e512e23  # sw x5, 252(x2)
+    .word 0x10012a23  # sw x0, 276(x2)
     .word 0x00b00293  # addi x5, x0, 11
-    .word 0x12512623  # sw x5, 300(x2)
-    .word 0x12812303  # lw x6, 296(x2)
-    .word 0x12c12283  # lw x5, 300(x2)
+    .word 0x10512c23  # sw x5, 280(x2)
+    .word 0x11412303  # lw x6, 276(x2)
+    .word 0x11812283  # lw x5, 280(x2)
     .word 0x005332b3  # sltu x5, x6, x5
     .word 0x00029463  # bne x5, x0, 8
-    .word 0x5780006f  # jal x0, 1400
-    .word 0x10612223  # sw x6, 260(x2)
+    .word 0x51c0006f  # jal x0, 1308
+    .word 0x10612023  # sw x6, 256(x2)
     .word 0x00130313  # addi x6, x6, 1
-    .word 0x12612423  # sw x6, 296(x2)
-    .word 0x10412283  # lw x5, 260(x2)
-    .word 0x0fc12303  # lw x6, 252(x2)
+    .word 0x10612a23  # sw x6, 276(x2)
+    .word 0x10012283  # lw x5, 256(x2)
+    .word 0x0f812303  # lw x6, 248(x2)
     .word 0x005332b3  # sltu x5, x6, x5
-    .word 0x10412303  # lw x6, 260(x2)
+    .word 0x10012303  # lw x6, 256(x2)
     .word 0xfff30313  # addi x6, x6, -1
-    .word 0x10412383  # lw x7, 260(x2)
+    .word 0x10012383  # lw x7, 256(x2)
     .word 0xfff38393  # addi x7, x7, -1
-    .word 0x0fc12403  # lw x8, 252(x2)
+    .word 0x0f812403  # lw x8, 248(x2)
     .word 0x408383b3  # sub x7, x7, x8
     .word 0xfff28293  # addi x5, x5, -1
     .word 0x00734333  # xor x6, x6, x7
@@ -245,23 +231,24 @@ ascon_aead128_encrypt:
     .word 0x0063c2b3  # xor x5, x7, x6
     .word 0x0072f293  # andi x5, x5, 7
     .word 0x10512423  # sw x5, 264(x2)
-    .word 0x10412283  # lw x5, 260(x2)
-    .word 0x0fc12303  # lw x6, 252(x2)
+    .word 0x10012283  # lw x5, 256(x2)
+    .word 0x0f812303  # lw x6, 248(x2)
     .word 0x00130313  # addi x6, x6, 1
     .word 0x00629a63  # bne x5, x6, 20
     .word 0x0d812283  # lw x5, 216(x2)
-    .word 0x12012303  # lw x6, 288(x2)
+    .word 0x10c12303  # lw x6, 268(x2)
     .word 0x0062c2b3  # xor x5, x5, x6
     .word 0x0c512c23  # sw x5, 216(x2)
-    .word 0x10412283  # lw x5, 260(x2)
+    .word 0x10012283  # lw x5, 256(x2)
     .word 0x005032b3  # sltu x5, x0, x5
-    .word 0x10412303  # lw x6, 260(x2)
-    .word 0x10012383  # lw x7, 256(x2)
+    .word 0x10012303  # lw x6, 256(x2)
+    .word 0x0fc12383  # lw x7, 252(x2)
     .word 0x0063b333  # sltu x6, x7, x6
     .word 0x00133313  # sltiu x6, x6, 1
     .word 0x0062f2b3  # and x5, x5, x6
-    .word 0x0e028863  # beq x5, x0, 240
-    .word 0x00000513  # addi x10, x0, 0
+    .word 0x0e028663  # beq x5, x0, 236
+    .word 0xfff00513  # addi x10, x0, -1
+    .word 0x00150513  # addi x10, x10, 1
     .word 0x10812283  # lw x5, 264(x2)
     .word 0x00429293  # slli x5, x5, 4
     .word 0x00a285b3  # add x11, x5, x10
@@ -275,8 +262,8 @@ ascon_aead128_encrypt:
     .word 0x002484b3  # add x9, x9, x2
     .word 0x00357293  # andi x5, x10, 3
     .word 0x00329693  # slli x13, x5, 3
-    .word 0x10412283  # lw x5, 260(x2)
-    .word 0x0fc12303  # lw x6, 252(x2)
+    .word 0x10012283  # lw x5, 256(x2)
+    .word 0x0f812303  # lw x6, 248(x2)
     .word 0x04536263  # bltu x6, x5, 68
     .word 0x00000713  # addi x14, x0, 0
     .word 0x0f412303  # lw x6, 244(x2)
@@ -316,47 +303,34 @@ ascon_aead128_encrypt:
     .word 0x00d31333  # sll x6, x6, x13
     .word 0x0062c2b3  # xor x5, x5, x6
     .word 0x0a54ac23  # sw x5, 184(x9)
-    .word 0x00150513  # addi x10, x10, 1
-    .word 0x01053293  # sltiu x5, x10, 16
+    .word 0xff150293  # addi x5, x10, -15
     .word 0xf20290e3  # bne x5, x0, -224
-    .word 0xfff50513  # addi x10, x10, -1
-    .word 0x10412283  # lw x5, 260(x2)
-    .word 0x10012303  # lw x6, 256(x2)
-    .word 0x06629863  # bne x5, x6, 112
-    .word 0x12012823  # sw x0, 304(x2)
-    .word 0x00400293  # addi x5, x0, 4
-    .word 0x12512a23  # sw x5, 308(x2)
-    .word 0x13012303  # lw x6, 304(x2)
-    .word 0x13412283  # lw x5, 308(x2)
-    .word 0x005332b3  # sltu x5, x6, x5
-    .word 0x00029463  # bne x5, x0, 8
-    .word 0x0500006f  # jal x0, 80
-    .word 0x10612623  # sw x6, 268(x2)
-    .word 0x00130313  # addi x6, x6, 1
-    .word 0x12612823  # sw x6, 304(x2)
-    .word 0x10c12283  # lw x5, 268(x2)
-    .word 0x00428293  # addi x5, x5, 4
-    .word 0x10c12303  # lw x6, 268(x2)
-    .word 0x00430313  # addi x6, x6, 4
+    .word 0x10012283  # lw x5, 256(x2)
+    .word 0x0fc12303  # lw x6, 252(x2)
+    .word 0x04629263  # bne x5, x6, 68
+    .word 0xfff00513  # addi x10, x0, -1
+    .word 0x00150513  # addi x10, x10, 1
+    .word 0x00450293  # addi x5, x10, 4
+    .word 0x00450313  # addi x6, x10, 4
     .word 0x00231313  # slli x6, x6, 2
     .word 0x00230333  # add x6, x6, x2
     .word 0x0b832303  # lw x6, 184(x6)
-    .word 0x10c12383  # lw x7, 268(x2)
-    .word 0x00239393  # slli x7, x7, 2
+    .word 0x00251393  # slli x7, x10, 2
     .word 0x002383b3  # add x7, x7, x2
     .word 0x0e03a383  # lw x7, 224(x7)
     .word 0x00734333  # xor x6, x6, x7
     .word 0x00229293  # slli x5, x5, 2
     .word 0x002282b3  # add x5, x5, x2
     .word 0x0a62ac23  # sw x6, 184(x5)
-    .word 0xfa5ff06f  # jal x0, -92
-    .word 0x10412283  # lw x5, 260(x2)
-    .word 0x10012303  # lw x6, 256(x2)
+    .word 0xffd50293  # addi x5, x10, -3
+    .word 0xfc0294e3  # bne x5, x0, -56
+    .word 0x10012283  # lw x5, 256(x2)
+    .word 0x0fc12303  # lw x6, 252(x2)
     .word 0x2e536863  # bltu x6, x5, 752
-    .word 0x10412283  # lw x5, 260(x2)
+    .word 0x10012283  # lw x5, 256(x2)
     .word 0x0012b293  # sltiu x5, x5, 1
-    .word 0x10412303  # lw x6, 260(x2)
-    .word 0x10012383  # lw x7, 256(x2)
+    .word 0x10012303  # lw x6, 256(x2)
+    .word 0x0fc12383  # lw x7, 252(x2)
     .word 0x40730333  # sub x6, x6, x7
     .word 0x00133313  # sltiu x6, x6, 1
     .word 0x0062e2b3  # or x5, x5, x6
@@ -376,7 +350,7 @@ ascon_aead128_encrypt:
     .word 0xfff2c813  # xori x16, x5, -1
     .word 0x0cc12283  # lw x5, 204(x2)
     .word 0xfff2c293  # xori x5, x5, -1
-    .word 0x10512823  # sw x5, 272(x2)
+    .word 0x10512223  # sw x5, 260(x2)
     .word 0x0d012283  # lw x5, 208(x2)
     .word 0xfff2c893  # xori x17, x5, -1
     .word 0x0d412283  # lw x5, 212(x2)
@@ -385,20 +359,20 @@ ascon_aead128_encrypt:
     .word 0xfff2ca13  # xori x20, x5, -1
     .word 0x0dc12283  # lw x5, 220(x2)
     .word 0xfff2cd13  # xori x26, x5, -1
-    .word 0x12b12823  # sw x11, 304(x2)
+    .word 0x10b12e23  # sw x11, 284(x2)
     .word 0x00c00293  # addi x5, x0, 12
-    .word 0x12512a23  # sw x5, 308(x2)
-    .word 0x13012303  # lw x6, 304(x2)
-    .word 0x13412283  # lw x5, 308(x2)
+    .word 0x12512023  # sw x5, 288(x2)
+    .word 0x11c12303  # lw x6, 284(x2)
+    .word 0x12012283  # lw x5, 288(x2)
     .word 0x005332b3  # sltu x5, x6, x5
     .word 0x00029463  # bne x5, x0, 8
     .word 0x2040006f  # jal x0, 516
-    .word 0x10612a23  # sw x6, 276(x2)
+    .word 0x10612423  # sw x6, 264(x2)
     .word 0x00130313  # addi x6, x6, 1
-    .word 0x12612823  # sw x6, 304(x2)
+    .word 0x10612e23  # sw x6, 284(x2)
     .word 0x0f000293  # addi x5, x0, 240
     .word 0x00f00313  # addi x6, x0, 15
-    .word 0x11412383  # lw x7, 276(x2)
+    .word 0x10812383  # lw x7, 264(x2)
     .word 0x02730333  # mul x6, x6, x7
     .word 0x406285b3  # sub x11, x5, x6
     .word 0x014b4933  # xor x18, x22, x20
@@ -421,7 +395,7 @@ ascon_aead128_encrypt:
     .word 0xfff2ca93  # xori x21, x5, -1
     .word 0x01a7cc33  # xor x24, x15, x26
     .word 0x017d4d33  # xor x26, x26, x23
-    .word 0x11012283  # lw x5, 272(x2)
+    .word 0x10412283  # lw x5, 260(x2)
     .word 0x0192c2b3  # xor x5, x5, x25
     .word 0x00b2cdb3  # xor x27, x5, x11
     .word 0x01bcf2b3  # and x5, x25, x27
@@ -487,7 +461,7 @@ ascon_aead128_encrypt:
     .word 0x01a89393  # slli x7, x17, 26
     .word 0x00736333  # or x6, x6, x7
     .word 0x0062c2b3  # xor x5, x5, x6
-    .word 0x10512823  # sw x5, 272(x2)
+    .word 0x10512223  # sw x5, 260(x2)
     .word 0x00aad313  # srli x6, x21, 10
     .word 0x016d9393  # slli x7, x27, 22
     .word 0x00736333  # or x6, x6, x7
@@ -529,7 +503,7 @@ ascon_aead128_encrypt:
     .word 0x0c512223  # sw x5, 196(x2)
     .word 0xfff84293  # xori x5, x16, -1
     .word 0x0c512423  # sw x5, 200(x2)
-    .word 0x11012283  # lw x5, 272(x2)
+    .word 0x10412283  # lw x5, 260(x2)
     .word 0xfff2c293  # xori x5, x5, -1
     .word 0x0c512623  # sw x5, 204(x2)
     .word 0xfff8c293  # xori x5, x17, -1
@@ -540,78 +514,55 @@ ascon_aead128_encrypt:
     .word 0x0c512c23  # sw x5, 216(x2)
     .word 0xfffd4293  # xori x5, x26, -1
     .word 0x0c512e23  # sw x5, 220(x2)
-    .word 0x10412283  # lw x5, 260(x2)
+    .word 0x10012283  # lw x5, 256(x2)
     .word 0x0012b293  # sltiu x5, x5, 1
-    .word 0x10412303  # lw x6, 260(x2)
-    .word 0x10012383  # lw x7, 256(x2)
+    .word 0x10012303  # lw x6, 256(x2)
+    .word 0x0fc12383  # lw x7, 252(x2)
     .word 0x40730333  # sub x6, x6, x7
     .word 0x00133313  # sltiu x6, x6, 1
     .word 0x0062e2b3  # or x5, x5, x6
-    .word 0x06028863  # beq x5, x0, 112
-    .word 0x12012823  # sw x0, 304(x2)
-    .word 0x00400293  # addi x5, x0, 4
-    .word 0x12512a23  # sw x5, 308(x2)
-    .word 0x13012303  # lw x6, 304(x2)
-    .word 0x13412283  # lw x5, 308(x2)
-    .word 0x005332b3  # sltu x5, x6, x5
-    .word 0x00029463  # bne x5, x0, 8
-    .word 0x0500006f  # jal x0, 80
-    .word 0x10612c23  # sw x6, 280(x2)
-    .word 0x00130313  # addi x6, x6, 1
-    .word 0x12612823  # sw x6, 304(x2)
-    .word 0x11812283  # lw x5, 280(x2)
-    .word 0x00628293  # addi x5, x5, 6
-    .word 0x11812303  # lw x6, 280(x2)
-    .word 0x00630313  # addi x6, x6, 6
+    .word 0x04028263  # beq x5, x0, 68
+    .word 0xfff00513  # addi x10, x0, -1
+    .word 0x00150513  # addi x10, x10, 1
+    .word 0x00650293  # addi x5, x10, 6
+    .word 0x00650313  # addi x6, x10, 6
     .word 0x00231313  # slli x6, x6, 2
     .word 0x00230333  # add x6, x6, x2
     .word 0x0b832303  # lw x6, 184(x6)
-    .word 0x11812383  # lw x7, 280(x2)
-    .word 0x00239393  # slli x7, x7, 2
+    .word 0x00251393  # slli x7, x10, 2
     .word 0x002383b3  # add x7, x7, x2
     .word 0x0e03a383  # lw x7, 224(x7)
     .word 0x00734333  # xor x6, x6, x7
     .word 0x00229293  # slli x5, x5, 2
     .word 0x002282b3  # add x5, x5, x2
     .word 0x0a62ac23  # sw x6, 184(x5)
-    .word 0xfa5ff06f  # jal x0, -92
-    .word 0xa7dff06f  # jal x0, -1412
-    .word 0x12012423  # sw x0, 296(x2)
-    .word 0x01000293  # addi x5, x0, 16
-    .word 0x12512623  # sw x5, 300(x2)
-    .word 0x12812303  # lw x6, 296(x2)
-    .word 0x12c12283  # lw x5, 300(x2)
-    .word 0x005332b3  # sltu x5, x6, x5
-    .word 0x00029463  # bne x5, x0, 8
-    .word 0x0600006f  # jal x0, 96
-    .word 0x10612e23  # sw x6, 284(x2)
-    .word 0x00130313  # addi x6, x6, 1
-    .word 0x12612423  # sw x6, 296(x2)
-    .word 0x11c12283  # lw x5, 284(x2)
-    .word 0x11c12303  # lw x6, 284(x2)
-    .word 0x00335313  # srli x6, x6, 3
+    .word 0xffd50293  # addi x5, x10, -3
+    .word 0xfc0294e3  # bne x5, x0, -56
+    .word 0xad9ff06f  # jal x0, -1320
+    .word 0xfff00513  # addi x10, x0, -1
+    .word 0x00150513  # addi x10, x10, 1
+    .word 0x00355313  # srli x6, x10, 3
     .word 0x00131313  # slli x6, x6, 1
     .word 0x00630313  # addi x6, x6, 6
     .word 0x00130313  # addi x6, x6, 1
-    .word 0x11c12383  # lw x7, 284(x2)
-    .word 0x0073f393  # andi x7, x7, 7
+    .word 0x00757393  # andi x7, x10, 7
     .word 0x0023d393  # srli x7, x7, 2
     .word 0x40730333  # sub x6, x6, x7
     .word 0x00231313  # slli x6, x6, 2
     .word 0x00230333  # add x6, x6, x2
     .word 0x0b832303  # lw x6, 184(x6)
-    .word 0x11c12383  # lw x7, 284(x2)
-    .word 0x0033f393  # andi x7, x7, 3
+    .word 0x00357393  # andi x7, x10, 3
     .word 0x00339393  # slli x7, x7, 3
     .word 0x00735333  # srl x6, x6, x7
-    .word 0x002282b3  # add x5, x5, x2
+    .word 0x002502b3  # add x5, x10, x2
     .word 0x0a628423  # sb x6, 168(x5)
-    .word 0xf95ff06f  # jal x0, -108
+    .word 0xff150293  # addi x5, x10, -15
+    .word 0xfa029ee3  # bne x5, x0, -68
     # the result
     .word 0x00000513  # addi x10, x0, 0
     # parameter 4: the array, back
     .word 0x06410293  # addi x5, x2, 100
-    .word 0x18412303  # lw x6, 388(x2)
+    .word 0x17412303  # lw x6, 372(x2)
     .word 0x04028393  # addi x7, x5, 64
     .word 0x0002ce03  # lbu x28, 0(x5)
     .word 0x01c30023  # sb x28, 0(x6)
@@ -620,7 +571,7 @@ ascon_aead128_encrypt:
     .word 0xfe7298e3  # bne x5, x7, -16
     # parameter 6: the array, back
     .word 0x0a810293  # addi x5, x2, 168
-    .word 0x18c12303  # lw x6, 396(x2)
+    .word 0x17c12303  # lw x6, 380(x2)
     .word 0x01028393  # addi x7, x5, 16
     .word 0x0002ce03  # lbu x28, 0(x5)
     .word 0x01c30023  # sb x28, 0(x6)
@@ -628,7 +579,7 @@ ascon_aead128_encrypt:
     .word 0x00130313  # addi x6, x6, 1
     .word 0xfe7298e3  # bne x5, x7, -16
     # above the frame
-    .word 0x14010293  # addi x5, x2, 320
+    .word 0x13010293  # addi x5, x2, 304
     # the caller's registers
     .word 0x0002a403  # lw x8, 0(x5)
     .cfi_restore 8

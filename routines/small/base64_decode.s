@@ -1,4 +1,4 @@
-# base64_decode: made by factc 1.0.0 function; 175 words, 176 bytes of stack, profile 1
+# base64_decode: made by factc 1.0.0 function; 169 words, 176 bytes of stack, profile 1
     .option push
     .option norvc
     .option norelax
@@ -21,8 +21,6 @@ base64_decode:
     .cfi_offset 19, -24
     .word 0x01412623  # sw x20, 12(x2)
     .cfi_offset 20, -20
-    .word 0x01512823  # sw x21, 16(x2)
-    .cfi_offset 21, -16
     # arguments that are needed behind the body
     .word 0x00a12a23  # sw x10, 20(x2)
     .word 0x00b12c23  # sw x11, 24(x2)
@@ -53,75 +51,74 @@ base64_decode:
     # the body
     .word 0x04012503  # lw x10, 64(x2)
     .word 0x00000713  # addi x14, x0, 0
-    .word 0x00000893  # addi x17, x0, 0
-    .word 0x00000a13  # addi x20, x0, 0
-    .word 0x00010ab7  # lui x21, 0x00010
-    .word 0xf00a8a93  # addi x21, x21, -256
+    .word 0x00000813  # addi x16, x0, 0
+    .word 0x00010a37  # lui x20, 0x00010
+    .word 0xf00a0a13  # addi x20, x20, -256
     .word 0x00357293  # andi x5, x10, 3
     .word 0x405005b3  # sub x11, x0, x5
     .word 0x00000613  # addi x12, x0, 0
     .word 0x00000693  # addi x13, x0, 0
-    .word 0x00000713  # addi x14, x0, 0
-    .word 0x00271793  # slli x15, x14, 2
-    .word 0x14a7fe63  # bgeu x15, x10, 348
+    .word 0xfff00713  # addi x14, x0, -1
+    .word 0x00170713  # addi x14, x14, 1
+    .word 0x00271993  # slli x19, x14, 2
+    .word 0x14a9fa63  # bgeu x19, x10, 340
     .word 0x40d00333  # sub x6, x0, x13
     .word 0x0065e5b3  # or x11, x11, x6
-    .word 0x00000813  # addi x16, x0, 0
-    .word 0x00000893  # addi x17, x0, 0
-    .word 0x011782b3  # add x5, x15, x17
-    .word 0x00228933  # add x18, x5, x2
-    .word 0x00094903  # lbu x18, 0(x18)
-    .word 0xfc090293  # addi x5, x18, -64
-    .word 0xfbf90313  # addi x6, x18, -65
+    .word 0x00000793  # addi x15, x0, 0
+    .word 0xfff00813  # addi x16, x0, -1
+    .word 0x00180813  # addi x16, x16, 1
+    .word 0x010982b3  # add x5, x19, x16
+    .word 0x002288b3  # add x17, x5, x2
+    .word 0x0008c883  # lbu x17, 0(x17)
+    .word 0xfc088293  # addi x5, x17, -64
+    .word 0xfbf88313  # addi x6, x17, -65
     .word 0x01a33313  # sltiu x6, x6, 26
     .word 0x40600333  # sub x6, x0, x6
-    .word 0x0062f9b3  # and x19, x5, x6
-    .word 0xfba90313  # addi x6, x18, -70
-    .word 0xf9f90393  # addi x7, x18, -97
+    .word 0x0062f933  # and x18, x5, x6
+    .word 0xfba88313  # addi x6, x17, -70
+    .word 0xf9f88393  # addi x7, x17, -97
     .word 0x01a3b393  # sltiu x7, x7, 26
     .word 0x407003b3  # sub x7, x0, x7
     .word 0x00737333  # and x6, x6, x7
-    .word 0x0069e9b3  # or x19, x19, x6
-    .word 0x00590313  # addi x6, x18, 5
-    .word 0xfd090393  # addi x7, x18, -48
+    .word 0x00696933  # or x18, x18, x6
+    .word 0x00588313  # addi x6, x17, 5
+    .word 0xfd088393  # addi x7, x17, -48
     .word 0x00a3b393  # sltiu x7, x7, 10
     .word 0x407003b3  # sub x7, x0, x7
     .word 0x00737333  # and x6, x6, x7
-    .word 0x0069e9b3  # or x19, x19, x6
-    .word 0xfd590313  # addi x6, x18, -43
+    .word 0x00696933  # or x18, x18, x6
+    .word 0xfd588313  # addi x6, x17, -43
     .word 0x00133313  # sltiu x6, x6, 1
     .word 0x40600333  # sub x6, x0, x6
     .word 0x03f37313  # andi x6, x6, 63
-    .word 0x0069e9b3  # or x19, x19, x6
-    .word 0xfd190313  # addi x6, x18, -47
+    .word 0x00696933  # or x18, x18, x6
+    .word 0xfd188313  # addi x6, x17, -47
     .word 0x00133313  # sltiu x6, x6, 1
     .word 0x40600333  # sub x6, x0, x6
     .word 0x04037313  # andi x6, x6, 64
-    .word 0x0069e9b3  # or x19, x19, x6
-    .word 0xfc390313  # addi x6, x18, -61
+    .word 0x00696933  # or x18, x18, x6
+    .word 0xfc388313  # addi x6, x17, -61
     .word 0x00133313  # sltiu x6, x6, 1
-    .word 0x0069e9b3  # or x19, x19, x6
-    .word 0xfff98993  # addi x19, x19, -1
-    .word 0x0135e5b3  # or x11, x11, x19
-    .word 0x00681293  # slli x5, x16, 6
-    .word 0x03f9f313  # andi x6, x19, 63
-    .word 0x0062e833  # or x16, x5, x6
+    .word 0x00696933  # or x18, x18, x6
+    .word 0xfff90913  # addi x18, x18, -1
+    .word 0x0125e5b3  # or x11, x11, x18
+    .word 0x00679293  # slli x5, x15, 6
+    .word 0x03f97313  # andi x6, x18, 63
+    .word 0x0062e7b3  # or x15, x5, x6
     .word 0x00169293  # slli x5, x13, 1
-    .word 0xfc390313  # addi x6, x18, -61
+    .word 0xfc388313  # addi x6, x17, -61
     .word 0x00133313  # sltiu x6, x6, 1
     .word 0x0062e6b3  # or x13, x5, x6
-    .word 0x00188893  # addi x17, x17, 1
-    .word 0x0048b293  # sltiu x5, x17, 4
+    .word 0xffd80293  # addi x5, x16, -3
     .word 0xf40298e3  # bne x5, x0, -176
-    .word 0xfff88893  # addi x17, x17, -1
     .word 0x00f6f693  # andi x13, x13, 15
     .word 0x0016f293  # andi x5, x13, 1
     .word 0x405002b3  # sub x5, x0, x5
     .word 0x0ff2f293  # andi x5, x5, 255
     .word 0x0016d393  # srli x7, x13, 1
     .word 0x407003b3  # sub x7, x0, x7
-    .word 0x007af333  # and x6, x21, x7
-    .word 0x0062e933  # or x18, x5, x6
+    .word 0x007a7333  # and x6, x20, x7
+    .word 0x0062e8b3  # or x17, x5, x6
     .word 0x00168393  # addi x7, x13, 1
     .word 0x0076f333  # and x6, x13, x7
     .word 0x40600333  # sub x6, x0, x6
@@ -129,31 +126,28 @@ base64_decode:
     .word 0x00300313  # addi x6, x0, 3
     .word 0x40d30333  # sub x6, x6, x13
     .word 0x0062e2b3  # or x5, x5, x6
-    .word 0x01287333  # and x6, x16, x18
+    .word 0x0117f333  # and x6, x15, x17
     .word 0x40600333  # sub x6, x0, x6
     .word 0x0062e5b3  # or x11, x5, x6
     .word 0x00360293  # addi x5, x12, 3
     .word 0x40d282b3  # sub x5, x5, x13
     .word 0x0016d313  # srli x6, x13, 1
     .word 0x00628633  # add x12, x5, x6
-    .word 0x00000a13  # addi x20, x0, 0
+    .word 0xfff00993  # addi x19, x0, -1
+    .word 0x00198993  # addi x19, x19, 1
     .word 0x00300293  # addi x5, x0, 3
     .word 0x02e282b3  # mul x5, x5, x14
-    .word 0x014282b3  # add x5, x5, x20
+    .word 0x013282b3  # add x5, x5, x19
     .word 0x01000393  # addi x7, x0, 16
-    .word 0x003a1413  # slli x8, x20, 3
+    .word 0x00399413  # slli x8, x19, 3
     .word 0x408383b3  # sub x7, x7, x8
-    .word 0x00785333  # srl x6, x16, x7
+    .word 0x0077d333  # srl x6, x15, x7
     .word 0x002282b3  # add x5, x5, x2
     .word 0x04628223  # sb x6, 68(x5)
-    .word 0x001a0a13  # addi x20, x20, 1
-    .word 0x003a3293  # sltiu x5, x20, 3
+    .word 0xffe98293  # addi x5, x19, -2
     .word 0xfc029ae3  # bne x5, x0, -44
-    .word 0xfffa0a13  # addi x20, x20, -1
-    .word 0x00170713  # addi x14, x14, 1
-    .word 0x01073293  # sltiu x5, x14, 16
-    .word 0xe8029ce3  # bne x5, x0, -360
-    .word 0xfff70713  # addi x14, x14, -1
+    .word 0xff170293  # addi x5, x14, -15
+    .word 0xea0290e3  # bne x5, x0, -352
     .word 0x1005b293  # sltiu x5, x11, 256
     .word 0x0ff67313  # andi x6, x12, 255
     .word 0x0ff00393  # addi x7, x0, 255
@@ -184,8 +178,6 @@ base64_decode:
     .cfi_restore 19
     .word 0x00c2aa03  # lw x20, 12(x5)
     .cfi_restore 20
-    .word 0x0102aa83  # lw x21, 16(x5)
-    .cfi_restore 21
     # the caller's x2
     .word 0x02028293  # addi x5, x5, 32
     .cfi_def_cfa 5, 0

@@ -1,4 +1,4 @@
-# base64_encode: made by factc 1.0.0 function; 171 words, 160 bytes of stack, profile 1
+# base64_encode: made by factc 1.0.0 function; 170 words, 160 bytes of stack, profile 1
     .option push
     .option norvc
     .option norelax
@@ -47,7 +47,8 @@ base64_encode:
     # the body
     .word 0x03012503  # lw x10, 48(x2)
     .word 0x00000593  # addi x11, x0, 0
-    .word 0x00000593  # addi x11, x0, 0
+    .word 0xfff00593  # addi x11, x0, -1
+    .word 0x00158593  # addi x11, x11, 1
     .word 0x00259613  # slli x12, x11, 2
     .word 0x00260933  # add x18, x12, x2
     .word 0x00300293  # addi x5, x0, 3
@@ -154,10 +155,8 @@ base64_encode:
     .word 0x02090aa3  # sb x0, 53(x18)
     .word 0x02090b23  # sb x0, 54(x18)
     .word 0x02090ba3  # sb x0, 55(x18)
-    .word 0x00158593  # addi x11, x11, 1
-    .word 0x0105b293  # sltiu x5, x11, 16
+    .word 0xff158293  # addi x5, x11, -15
     .word 0xe40298e3  # bne x5, x0, -432
-    .word 0xfff58593  # addi x11, x11, -1
     # the result
     .word 0x00000513  # addi x10, x0, 0
     # parameter 2: the array, back

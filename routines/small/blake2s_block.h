@@ -6,7 +6,7 @@
 #define FACT_blake2s_block_H
 #include <stdbool.h>
 #include <stdint.h>
-#define blake2s_block_STACK_BYTES 352
+#define blake2s_block_STACK_BYTES 336
 #ifdef __cplusplus
 extern "C" {
 #endif

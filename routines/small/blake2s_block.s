@@ -1,4 +1,4 @@
-# blake2s_block: made by factc 1.0.0 function; 587 words, 352 bytes of stack, profile 1
+# blake2s_block: made by factc 1.0.0 function; 586 words, 336 bytes of stack, profile 1
     .option push
     .option norvc
     .option norelax
@@ -10,38 +10,36 @@
 blake2s_block:
     .cfi_startproc
     # room above the frame
-    .word 0xfc010113  # addi x2, x2, -64
-    .cfi_def_cfa_offset 64
+    .word 0xfd010113  # addi x2, x2, -48
+    .cfi_def_cfa_offset 48
     # the caller's registers
-    .word 0x00812023  # sw x8, 0(x2)
-    .cfi_offset 8, -64
-    .word 0x00912223  # sw x9, 4(x2)
-    .cfi_offset 9, -60
-    .word 0x01212423  # sw x18, 8(x2)
-    .cfi_offset 18, -56
-    .word 0x01312623  # sw x19, 12(x2)
-    .cfi_offset 19, -52
-    .word 0x01412823  # sw x20, 16(x2)
-    .cfi_offset 20, -48
-    .word 0x01512a23  # sw x21, 20(x2)
-    .cfi_offset 21, -44
-    .word 0x01612c23  # sw x22, 24(x2)
-    .cfi_offset 22, -40
-    .word 0x01712e23  # sw x23, 28(x2)
-    .cfi_offset 23, -36
-    .word 0x03812023  # sw x24, 32(x2)
-    .cfi_offset 24, -32
-    .word 0x03912223  # sw x25, 36(x2)
-    .cfi_offset 25, -28
-    .word 0x03a12423  # sw x26, 40(x2)
-    .cfi_offset 26, -24
-    .word 0x03b12623  # sw x27, 44(x2)
-    .cfi_offset 27, -20
+    .word 0x00912023  # sw x9, 0(x2)
+    .cfi_offset 9, -48
+    .word 0x01212223  # sw x18, 4(x2)
+    .cfi_offset 18, -44
+    .word 0x01312423  # sw x19, 8(x2)
+    .cfi_offset 19, -40
+    .word 0x01412623  # sw x20, 12(x2)
+    .cfi_offset 20, -36
+    .word 0x01512823  # sw x21, 16(x2)
+    .cfi_offset 21, -32
+    .word 0x01612a23  # sw x22, 20(x2)
+    .cfi_offset 22, -28
+    .word 0x01712c23  # sw x23, 24(x2)
+    .cfi_offset 23, -24
+    .word 0x01812e23  # sw x24, 28(x2)
+    .cfi_offset 24, -20
+    .word 0x03912023  # sw x25, 32(x2)
+    .cfi_offset 25, -16
+    .word 0x03a12223  # sw x26, 36(x2)
+    .cfi_offset 26, -12
+    .word 0x03b12423  # sw x27, 40(x2)
+    .cfi_offset 27, -8
     # arguments that are needed behind the body
-    .word 0x02a12e23  # sw x10, 60(x2)
+    .word 0x02a12623  # sw x10, 44(x2)
     # the frame's base
     .word 0xee010113  # addi x2, x2, -288
-    .cfi_def_cfa 2, 352
+    .cfi_def_cfa 2, 336
     # parameter 0: an array
     .word 0x00050293  # addi x5, x10, 0
     .word 0x00010313  # addi x6, x2, 0
@@ -71,8 +69,9 @@ blake2s_block:
     .word 0x00d036b3  # sltu x13, x0, x13
     .word 0x06d12423  # sw x13, 104(x2)
     # the body
-    .word 0x6df984b7  # lui x9, 0x6df98
-    .word 0x4ae48493  # addi x9, x9, 1198
+    .word 0x6df982b7  # lui x5, 0x6df98
+    .word 0x4ae28293  # addi x5, x5, 1198
+    .word 0x0a512c23  # sw x5, 184(x2)
     .word 0x357b22b7  # lui x5, 0x357b2
     .word 0x0c128293  # addi x5, x5, 193
     .word 0x0a512e23  # sw x5, 188(x2)
@@ -153,21 +152,21 @@ blake2s_block:
     .word 0x10612223  # sw x6, 260(x2)
     .word 0x0ac12283  # lw x5, 172(x2)
     .word 0x00229d93  # slli x27, x5, 2
-    .word 0x002d82b3  # add x5, x27, x2
-    .word 0x0202c283  # lbu x5, 32(x5)
-    .word 0x002d8333  # add x6, x27, x2
-    .word 0x02134303  # lbu x6, 33(x6)
-    .word 0x00831313  # slli x6, x6, 8
-    .word 0x0062e533  # or x10, x5, x6
-    .word 0x002d82b3  # add x5, x27, x2
-    .word 0x0222c283  # lbu x5, 34(x5)
-    .word 0x01029293  # slli x5, x5, 16
-    .word 0x002d8333  # add x6, x27, x2
-    .word 0x02334303  # lbu x6, 35(x6)
-    .word 0x01831313  # slli x6, x6, 24
-    .word 0x0062e5b3  # or x11, x5, x6
     .word 0x0ac12283  # lw x5, 172(x2)
-    .word 0x00b56333  # or x6, x10, x11
+    .word 0x002d8333  # add x6, x27, x2
+    .word 0x02034303  # lbu x6, 32(x6)
+    .word 0x002d83b3  # add x7, x27, x2
+    .word 0x0213c383  # lbu x7, 33(x7)
+    .word 0x00839393  # slli x7, x7, 8
+    .word 0x00736333  # or x6, x6, x7
+    .word 0x002d83b3  # add x7, x27, x2
+    .word 0x0223c383  # lbu x7, 34(x7)
+    .word 0x01039393  # slli x7, x7, 16
+    .word 0x00736333  # or x6, x6, x7
+    .word 0x002d83b3  # add x7, x27, x2
+    .word 0x0233c383  # lbu x7, 35(x7)
+    .word 0x01839393  # slli x7, x7, 24
+    .word 0x00736333  # or x6, x6, x7
     .word 0x00229293  # slli x5, x5, 2
     .word 0x002282b3  # add x5, x5, x2
     .word 0x0662a623  # sw x6, 108(x5)
@@ -206,8 +205,8 @@ blake2s_block:
     .word 0x00000d13  # addi x26, x0, 0
     .word 0x76543db7  # lui x27, 0x76543
     .word 0x210d8d93  # addi x27, x27, 528
-    .word 0xfedcc437  # lui x8, 0xfedcc
-    .word 0xa9840413  # addi x8, x8, -1384
+    .word 0xfedcc4b7  # lui x9, 0xfedcc
+    .word 0xa9848493  # addi x9, x9, -1384
     .word 0x10012223  # sw x0, 260(x2)
     .word 0x00200293  # addi x5, x0, 2
     .word 0x10512423  # sw x5, 264(x2)
@@ -216,7 +215,7 @@ blake2s_block:
     .word 0x005332b3  # sltu x5, x6, x5
     .word 0x00029463  # bne x5, x0, 8
     .word 0x5200006f  # jal x0, 1312
-    .word 0x0a612823  # sw x6, 176(x2)
+    .word 0x0a612623  # sw x6, 172(x2)
     .word 0x00130313  # addi x6, x6, 1
     .word 0x10612223  # sw x6, 260(x2)
     .word 0x10012623  # sw x0, 268(x2)
@@ -227,7 +226,7 @@ blake2s_block:
     .word 0x005332b3  # sltu x5, x6, x5
     .word 0x00029463  # bne x5, x0, 8
     .word 0x4f00006f  # jal x0, 1264
-    .word 0x0a612a23  # sw x6, 180(x2)
+    .word 0x0a612823  # sw x6, 176(x2)
     .word 0x00130313  # addi x6, x6, 1
     .word 0x10612623  # sw x6, 268(x2)
     .word 0x10012a23  # sw x0, 276(x2)
@@ -238,55 +237,55 @@ blake2s_block:
     .word 0x005332b3  # sltu x5, x6, x5
     .word 0x00029463  # bne x5, x0, 8
     .word 0x4c00006f  # jal x0, 1216
-    .word 0x0a612c23  # sw x6, 184(x2)
+    .word 0x0a612a23  # sw x6, 180(x2)
     .word 0x00130313  # addi x6, x6, 1
     .word 0x10612a23  # sw x6, 276(x2)
     .word 0x00a00313  # addi x6, x0, 10
     .word 0x4a6d7463  # bgeu x26, x6, 1192
     .word 0x00100313  # addi x6, x0, 1
     .word 0x006d1863  # bne x26, x6, 16
-    .word 0x00048d93  # addi x27, x9, 0
-    .word 0x0bc12403  # lw x8, 188(x2)
+    .word 0x0b812d83  # lw x27, 184(x2)
+    .word 0x0bc12483  # lw x9, 188(x2)
     .word 0x0a00006f  # jal x0, 160
     .word 0x00200313  # addi x6, x0, 2
     .word 0x006d1863  # bne x26, x6, 16
     .word 0x0c012d83  # lw x27, 192(x2)
-    .word 0x0c412403  # lw x8, 196(x2)
+    .word 0x0c412483  # lw x9, 196(x2)
     .word 0x08c0006f  # jal x0, 140
     .word 0x00300313  # addi x6, x0, 3
     .word 0x006d1863  # bne x26, x6, 16
     .word 0x0c812d83  # lw x27, 200(x2)
-    .word 0x0cc12403  # lw x8, 204(x2)
+    .word 0x0cc12483  # lw x9, 204(x2)
     .word 0x0780006f  # jal x0, 120
     .word 0x00400313  # addi x6, x0, 4
     .word 0x006d1863  # bne x26, x6, 16
     .word 0x0d012d83  # lw x27, 208(x2)
-    .word 0x0d412403  # lw x8, 212(x2)
+    .word 0x0d412483  # lw x9, 212(x2)
     .word 0x0640006f  # jal x0, 100
     .word 0x00500313  # addi x6, x0, 5
     .word 0x006d1863  # bne x26, x6, 16
     .word 0x0d812d83  # lw x27, 216(x2)
-    .word 0x0dc12403  # lw x8, 220(x2)
+    .word 0x0dc12483  # lw x9, 220(x2)
     .word 0x0500006f  # jal x0, 80
     .word 0x00600313  # addi x6, x0, 6
     .word 0x006d1863  # bne x26, x6, 16
     .word 0x0e012d83  # lw x27, 224(x2)
-    .word 0x0e412403  # lw x8, 228(x2)
+    .word 0x0e412483  # lw x9, 228(x2)
     .word 0x03c0006f  # jal x0, 60
     .word 0x00700313  # addi x6, x0, 7
     .word 0x006d1863  # bne x26, x6, 16
     .word 0x0e812d83  # lw x27, 232(x2)
-    .word 0x0ec12403  # lw x8, 236(x2)
+    .word 0x0ec12483  # lw x9, 236(x2)
     .word 0x0280006f  # jal x0, 40
     .word 0x00800313  # addi x6, x0, 8
     .word 0x006d1863  # bne x26, x6, 16
     .word 0x0f012d83  # lw x27, 240(x2)
-    .word 0x0f412403  # lw x8, 244(x2)
+    .word 0x0f412483  # lw x9, 244(x2)
     .word 0x0140006f  # jal x0, 20
     .word 0x00900313  # addi x6, x0, 9
     .word 0x006d1663  # bne x26, x6, 12
     .word 0x0f812d83  # lw x27, 248(x2)
-    .word 0x0fc12403  # lw x8, 252(x2)
+    .word 0x0fc12483  # lw x9, 252(x2)
     .word 0x00e502b3  # add x5, x10, x14
     .word 0x00fdf313  # andi x6, x27, 15
     .word 0x00231313  # slli x6, x6, 2
@@ -414,7 +413,7 @@ blake2s_block:
     .word 0x0072d893  # srli x17, x5, 7
     .word 0x011f08b3  # add x17, x30, x17
     .word 0x00f502b3  # add x5, x10, x15
-    .word 0x00f47313  # andi x6, x8, 15
+    .word 0x00f4f313  # andi x6, x9, 15
     .word 0x00231313  # slli x6, x6, 2
     .word 0x00230333  # add x6, x6, x2
     .word 0x06c32303  # lw x6, 108(x6)
@@ -429,7 +428,7 @@ blake2s_block:
     .word 0x00c2d793  # srli x15, x5, 12
     .word 0x00ff07b3  # add x15, x30, x15
     .word 0x00f502b3  # add x5, x10, x15
-    .word 0x00445313  # srli x6, x8, 4
+    .word 0x0044d313  # srli x6, x9, 4
     .word 0x00f37313  # andi x6, x6, 15
     .word 0x00231313  # slli x6, x6, 2
     .word 0x00230333  # add x6, x6, x2
@@ -445,7 +444,7 @@ blake2s_block:
     .word 0x0072d793  # srli x15, x5, 7
     .word 0x00ff07b3  # add x15, x30, x15
     .word 0x010582b3  # add x5, x11, x16
-    .word 0x00845313  # srli x6, x8, 8
+    .word 0x0084d313  # srli x6, x9, 8
     .word 0x00f37313  # andi x6, x6, 15
     .word 0x00231313  # slli x6, x6, 2
     .word 0x00230333  # add x6, x6, x2
@@ -461,7 +460,7 @@ blake2s_block:
     .word 0x00c2d813  # srli x16, x5, 12
     .word 0x010f0833  # add x16, x30, x16
     .word 0x010582b3  # add x5, x11, x16
-    .word 0x00c45313  # srli x6, x8, 12
+    .word 0x00c4d313  # srli x6, x9, 12
     .word 0x00f37313  # andi x6, x6, 15
     .word 0x00231313  # slli x6, x6, 2
     .word 0x00230333  # add x6, x6, x2
@@ -477,7 +476,7 @@ blake2s_block:
     .word 0x0072d813  # srli x16, x5, 7
     .word 0x010f0833  # add x16, x30, x16
     .word 0x011602b3  # add x5, x12, x17
-    .word 0x01045313  # srli x6, x8, 16
+    .word 0x0104d313  # srli x6, x9, 16
     .word 0x00f37313  # andi x6, x6, 15
     .word 0x00231313  # slli x6, x6, 2
     .word 0x00230333  # add x6, x6, x2
@@ -493,7 +492,7 @@ blake2s_block:
     .word 0x00c2d893  # srli x17, x5, 12
     .word 0x011f08b3  # add x17, x30, x17
     .word 0x011602b3  # add x5, x12, x17
-    .word 0x01445313  # srli x6, x8, 20
+    .word 0x0144d313  # srli x6, x9, 20
     .word 0x00f37313  # andi x6, x6, 15
     .word 0x00231313  # slli x6, x6, 2
     .word 0x00230333  # add x6, x6, x2
@@ -509,7 +508,7 @@ blake2s_block:
     .word 0x0072d893  # srli x17, x5, 7
     .word 0x011f08b3  # add x17, x30, x17
     .word 0x00e682b3  # add x5, x13, x14
-    .word 0x01845313  # srli x6, x8, 24
+    .word 0x0184d313  # srli x6, x9, 24
     .word 0x00f37313  # andi x6, x6, 15
     .word 0x00231313  # slli x6, x6, 2
     .word 0x00230333  # add x6, x6, x2
@@ -525,7 +524,7 @@ blake2s_block:
     .word 0x00c2d713  # srli x14, x5, 12
     .word 0x00ef0733  # add x14, x30, x14
     .word 0x00e682b3  # add x5, x13, x14
-    .word 0x01c45313  # srli x6, x8, 28
+    .word 0x01c4d313  # srli x6, x9, 28
     .word 0x00231313  # slli x6, x6, 2
     .word 0x00230333  # add x6, x6, x2
     .word 0x06c32303  # lw x6, 108(x6)
@@ -579,7 +578,7 @@ blake2s_block:
     .word 0x00000513  # addi x10, x0, 0
     # parameter 0: the array, back
     .word 0x00010293  # addi x5, x2, 0
-    .word 0x15c12303  # lw x6, 348(x2)
+    .word 0x14c12303  # lw x6, 332(x2)
     .word 0x02028393  # addi x7, x5, 32
     .word 0x0002ae03  # lw x28, 0(x5)
     .word 0x01c32023  # sw x28, 0(x6)
@@ -589,32 +588,30 @@ blake2s_block:
     # above the frame
     .word 0x12010293  # addi x5, x2, 288
     # the caller's registers
-    .word 0x0002a403  # lw x8, 0(x5)
-    .cfi_restore 8
-    .word 0x0042a483  # lw x9, 4(x5)
+    .word 0x0002a483  # lw x9, 0(x5)
     .cfi_restore 9
-    .word 0x0082a903  # lw x18, 8(x5)
+    .word 0x0042a903  # lw x18, 4(x5)
     .cfi_restore 18
-    .word 0x00c2a983  # lw x19, 12(x5)
+    .word 0x0082a983  # lw x19, 8(x5)
     .cfi_restore 19
-    .word 0x0102aa03  # lw x20, 16(x5)
+    .word 0x00c2aa03  # lw x20, 12(x5)
     .cfi_restore 20
-    .word 0x0142aa83  # lw x21, 20(x5)
+    .word 0x0102aa83  # lw x21, 16(x5)
     .cfi_restore 21
-    .word 0x0182ab03  # lw x22, 24(x5)
+    .word 0x0142ab03  # lw x22, 20(x5)
     .cfi_restore 22
-    .word 0x01c2ab83  # lw x23, 28(x5)
+    .word 0x0182ab83  # lw x23, 24(x5)
     .cfi_restore 23
-    .word 0x0202ac03  # lw x24, 32(x5)
+    .word 0x01c2ac03  # lw x24, 28(x5)
     .cfi_restore 24
-    .word 0x0242ac83  # lw x25, 36(x5)
+    .word 0x0202ac83  # lw x25, 32(x5)
     .cfi_restore 25
-    .word 0x0282ad03  # lw x26, 40(x5)
+    .word 0x0242ad03  # lw x26, 36(x5)
     .cfi_restore 26
-    .word 0x02c2ad83  # lw x27, 44(x5)
+    .word 0x0282ad83  # lw x27, 40(x5)
     .cfi_restore 27
     # the caller's x2
-    .word 0x04028293  # addi x5, x5, 64
+    .word 0x03028293  # addi x5, x5, 48
     .cfi_def_cfa 5, 0
     # all the room, wiped upward
     .word 0x00012023  # sw x0, 0(x2)

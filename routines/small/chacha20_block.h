@@ -6,7 +6,7 @@
 #define FACT_chacha20_block_H
 #include <stdbool.h>
 #include <stdint.h>
-#define chacha20_block_STACK_BYTES 240
+#define chacha20_block_STACK_BYTES 224
 #ifdef __cplusplus
 extern "C" {
 #endif

@@ -6,7 +6,7 @@
 #define FACT_chacha20_blocks_H
 #include <stdbool.h>
 #include <stdint.h>
-#define chacha20_blocks_STACK_BYTES 640
+#define chacha20_blocks_STACK_BYTES 624
 #ifdef __cplusplus
 extern "C" {
 #endif

@@ -1,4 +1,4 @@
-# chacha20_xor: made by factc 1.0.0 function; 467 words, 320 bytes of stack, profile 1
+# chacha20_xor: made by factc 1.0.0 function; 358 words, 320 bytes of stack, profile 1
     .option push
     .option norvc
     .option norelax
@@ -88,117 +88,18 @@ chacha20_xor:
     .word 0xd3268693  # addi x13, x13, -718
     .word 0x6b206737  # lui x14, 0x6b206
     .word 0x57470713  # addi x14, x14, 1396
-    .word 0x00014283  # lbu x5, 0(x2)
-    .word 0x00114303  # lbu x6, 1(x2)
-    .word 0x00831313  # slli x6, x6, 8
-    .word 0x0062edb3  # or x27, x5, x6
-    .word 0x00214303  # lbu x6, 2(x2)
-    .word 0x01031313  # slli x6, x6, 16
-    .word 0x006de2b3  # or x5, x27, x6
-    .word 0x00314303  # lbu x6, 3(x2)
-    .word 0x01831313  # slli x6, x6, 24
-    .word 0x0062edb3  # or x27, x5, x6
-    .word 0x00414283  # lbu x5, 4(x2)
-    .word 0x00514303  # lbu x6, 5(x2)
-    .word 0x00831313  # slli x6, x6, 8
-    .word 0x0062e7b3  # or x15, x5, x6
-    .word 0x00614303  # lbu x6, 6(x2)
-    .word 0x01031313  # slli x6, x6, 16
-    .word 0x0067e2b3  # or x5, x15, x6
-    .word 0x00714303  # lbu x6, 7(x2)
-    .word 0x01831313  # slli x6, x6, 24
-    .word 0x0062e7b3  # or x15, x5, x6
-    .word 0x00814283  # lbu x5, 8(x2)
-    .word 0x00914303  # lbu x6, 9(x2)
-    .word 0x00831313  # slli x6, x6, 8
-    .word 0x0062e833  # or x16, x5, x6
-    .word 0x00a14303  # lbu x6, 10(x2)
-    .word 0x01031313  # slli x6, x6, 16
-    .word 0x006862b3  # or x5, x16, x6
-    .word 0x00b14303  # lbu x6, 11(x2)
-    .word 0x01831313  # slli x6, x6, 24
-    .word 0x0062e833  # or x16, x5, x6
-    .word 0x00c14283  # lbu x5, 12(x2)
-    .word 0x00d14303  # lbu x6, 13(x2)
-    .word 0x00831313  # slli x6, x6, 8
-    .word 0x0062e8b3  # or x17, x5, x6
-    .word 0x00e14303  # lbu x6, 14(x2)
-    .word 0x01031313  # slli x6, x6, 16
-    .word 0x0068e2b3  # or x5, x17, x6
-    .word 0x00f14303  # lbu x6, 15(x2)
-    .word 0x01831313  # slli x6, x6, 24
-    .word 0x0062e8b3  # or x17, x5, x6
-    .word 0x01014283  # lbu x5, 16(x2)
-    .word 0x01114303  # lbu x6, 17(x2)
-    .word 0x00831313  # slli x6, x6, 8
-    .word 0x0062ebb3  # or x23, x5, x6
-    .word 0x01214303  # lbu x6, 18(x2)
-    .word 0x01031313  # slli x6, x6, 16
-    .word 0x006be2b3  # or x5, x23, x6
-    .word 0x01314303  # lbu x6, 19(x2)
-    .word 0x01831313  # slli x6, x6, 24
-    .word 0x0062e933  # or x18, x5, x6
-    .word 0x01414283  # lbu x5, 20(x2)
-    .word 0x01514303  # lbu x6, 21(x2)
-    .word 0x00831313  # slli x6, x6, 8
-    .word 0x0062ebb3  # or x23, x5, x6
-    .word 0x01614303  # lbu x6, 22(x2)
-    .word 0x01031313  # slli x6, x6, 16
-    .word 0x006be2b3  # or x5, x23, x6
-    .word 0x01714303  # lbu x6, 23(x2)
-    .word 0x01831313  # slli x6, x6, 24
-    .word 0x0062e9b3  # or x19, x5, x6
-    .word 0x01814283  # lbu x5, 24(x2)
-    .word 0x01914303  # lbu x6, 25(x2)
-    .word 0x00831313  # slli x6, x6, 8
-    .word 0x0062ebb3  # or x23, x5, x6
-    .word 0x01a14303  # lbu x6, 26(x2)
-    .word 0x01031313  # slli x6, x6, 16
-    .word 0x006be2b3  # or x5, x23, x6
-    .word 0x01b14303  # lbu x6, 27(x2)
-    .word 0x01831313  # slli x6, x6, 24
-    .word 0x0062ea33  # or x20, x5, x6
-    .word 0x01c14283  # lbu x5, 28(x2)
-    .word 0x01d14303  # lbu x6, 29(x2)
-    .word 0x00831313  # slli x6, x6, 8
-    .word 0x0062ebb3  # or x23, x5, x6
-    .word 0x01e14303  # lbu x6, 30(x2)
-    .word 0x01031313  # slli x6, x6, 16
-    .word 0x006be2b3  # or x5, x23, x6
-    .word 0x01f14303  # lbu x6, 31(x2)
-    .word 0x01831313  # slli x6, x6, 24
-    .word 0x0062eab3  # or x21, x5, x6
+    .word 0x00012d83  # lw x27, 0(x2)
+    .word 0x00412783  # lw x15, 4(x2)
+    .word 0x00812803  # lw x16, 8(x2)
+    .word 0x00c12883  # lw x17, 12(x2)
+    .word 0x01012903  # lw x18, 16(x2)
+    .word 0x01412983  # lw x19, 20(x2)
+    .word 0x01812a03  # lw x20, 24(x2)
+    .word 0x01c12a83  # lw x21, 28(x2)
     .word 0x02012b03  # lw x22, 32(x2)
-    .word 0x02414283  # lbu x5, 36(x2)
-    .word 0x02514303  # lbu x6, 37(x2)
-    .word 0x00831313  # slli x6, x6, 8
-    .word 0x0062e4b3  # or x9, x5, x6
-    .word 0x02614303  # lbu x6, 38(x2)
-    .word 0x01031313  # slli x6, x6, 16
-    .word 0x0064e2b3  # or x5, x9, x6
-    .word 0x02714303  # lbu x6, 39(x2)
-    .word 0x01831313  # slli x6, x6, 24
-    .word 0x0062ebb3  # or x23, x5, x6
-    .word 0x02814283  # lbu x5, 40(x2)
-    .word 0x02914303  # lbu x6, 41(x2)
-    .word 0x00831313  # slli x6, x6, 8
-    .word 0x0062e4b3  # or x9, x5, x6
-    .word 0x02a14303  # lbu x6, 42(x2)
-    .word 0x01031313  # slli x6, x6, 16
-    .word 0x0064e2b3  # or x5, x9, x6
-    .word 0x02b14303  # lbu x6, 43(x2)
-    .word 0x01831313  # slli x6, x6, 24
-    .word 0x0062ec33  # or x24, x5, x6
-    .word 0x02c14283  # lbu x5, 44(x2)
-    .word 0x02d14303  # lbu x6, 45(x2)
-    .word 0x00831313  # slli x6, x6, 8
-    .word 0x0062e4b3  # or x9, x5, x6
-    .word 0x02e14303  # lbu x6, 46(x2)
-    .word 0x01031313  # slli x6, x6, 16
-    .word 0x0064e2b3  # or x5, x9, x6
-    .word 0x02f14303  # lbu x6, 47(x2)
-    .word 0x01831313  # slli x6, x6, 24
-    .word 0x0062ecb3  # or x25, x5, x6
+    .word 0x02412b83  # lw x23, 36(x2)
+    .word 0x02812c03  # lw x24, 40(x2)
+    .word 0x02c12c83  # lw x25, 44(x2)
     .word 0x07b12a23  # sw x27, 116(x2)
     .word 0x06f12c23  # sw x15, 120(x2)
     .word 0x07012e23  # sw x16, 124(x2)
@@ -210,17 +111,8 @@ chacha20_xor:
     .word 0x09712a23  # sw x23, 148(x2)
     .word 0x09812c23  # sw x24, 152(x2)
     .word 0x09912e23  # sw x25, 156(x2)
-    .word 0x0e012423  # sw x0, 232(x2)
-    .word 0x00a00293  # addi x5, x0, 10
-    .word 0x0e512623  # sw x5, 236(x2)
-    .word 0x0e812303  # lw x6, 232(x2)
-    .word 0x0ec12283  # lw x5, 236(x2)
-    .word 0x005332b3  # sltu x5, x6, x5
-    .word 0x00029463  # bne x5, x0, 8
-    .word 0x2940006f  # jal x0, 660
-    .word 0x0a612023  # sw x6, 160(x2)
-    .word 0x00130313  # addi x6, x6, 1
-    .word 0x0e612423  # sw x6, 232(x2)
+    .word 0xfff00d13  # addi x26, x0, -1
+    .word 0x001d0d13  # addi x26, x26, 1
     .word 0x01b585b3  # add x11, x11, x27
     .word 0x00bb4b33  # xor x22, x22, x11
     .word 0x010b1f13  # slli x30, x22, 16
@@ -381,64 +273,67 @@ chacha20_xor:
     .word 0x007d9f13  # slli x30, x27, 7
     .word 0x019ddd93  # srli x27, x27, 25
     .word 0x01bf0db3  # add x27, x30, x27
-    .word 0xd61ff06f  # jal x0, -672
+    .word 0xff7d0293  # addi x5, x26, -9
+    .word 0xd6029ce3  # bne x5, x0, -648
     .word 0x61708337  # lui x6, 0x61708
     .word 0x86530313  # addi x6, x6, -1947
     .word 0x006582b3  # add x5, x11, x6
-    .word 0x0a512223  # sw x5, 164(x2)
+    .word 0x0a512023  # sw x5, 160(x2)
     .word 0x33206337  # lui x6, 0x33206
     .word 0x46e30313  # addi x6, x6, 1134
     .word 0x006602b3  # add x5, x12, x6
-    .word 0x0a512423  # sw x5, 168(x2)
+    .word 0x0a512223  # sw x5, 164(x2)
     .word 0x79623337  # lui x6, 0x79623
     .word 0xd3230313  # addi x6, x6, -718
     .word 0x006682b3  # add x5, x13, x6
-    .word 0x0a512623  # sw x5, 172(x2)
+    .word 0x0a512423  # sw x5, 168(x2)
     .word 0x6b206337  # lui x6, 0x6b206
     .word 0x57430313  # addi x6, x6, 1396
     .word 0x006702b3  # add x5, x14, x6
-    .word 0x0a512823  # sw x5, 176(x2)
+    .word 0x0a512623  # sw x5, 172(x2)
     .word 0x07412303  # lw x6, 116(x2)
     .word 0x006d82b3  # add x5, x27, x6
-    .word 0x0a512a23  # sw x5, 180(x2)
+    .word 0x0a512823  # sw x5, 176(x2)
     .word 0x07812303  # lw x6, 120(x2)
     .word 0x006782b3  # add x5, x15, x6
-    .word 0x0a512c23  # sw x5, 184(x2)
+    .word 0x0a512a23  # sw x5, 180(x2)
     .word 0x07c12303  # lw x6, 124(x2)
     .word 0x006802b3  # add x5, x16, x6
-    .word 0x0a512e23  # sw x5, 188(x2)
+    .word 0x0a512c23  # sw x5, 184(x2)
     .word 0x08012303  # lw x6, 128(x2)
     .word 0x006882b3  # add x5, x17, x6
-    .word 0x0c512023  # sw x5, 192(x2)
+    .word 0x0a512e23  # sw x5, 188(x2)
     .word 0x08412303  # lw x6, 132(x2)
     .word 0x006902b3  # add x5, x18, x6
-    .word 0x0c512223  # sw x5, 196(x2)
+    .word 0x0c512023  # sw x5, 192(x2)
     .word 0x08812303  # lw x6, 136(x2)
     .word 0x006982b3  # add x5, x19, x6
-    .word 0x0c512423  # sw x5, 200(x2)
+    .word 0x0c512223  # sw x5, 196(x2)
     .word 0x08c12303  # lw x6, 140(x2)
     .word 0x006a02b3  # add x5, x20, x6
-    .word 0x0c512623  # sw x5, 204(x2)
+    .word 0x0c512423  # sw x5, 200(x2)
     .word 0x09012303  # lw x6, 144(x2)
     .word 0x006a82b3  # add x5, x21, x6
-    .word 0x0c512823  # sw x5, 208(x2)
+    .word 0x0c512623  # sw x5, 204(x2)
     .word 0x02012303  # lw x6, 32(x2)
     .word 0x006b02b3  # add x5, x22, x6
-    .word 0x0c512a23  # sw x5, 212(x2)
+    .word 0x0c512823  # sw x5, 208(x2)
     .word 0x09412303  # lw x6, 148(x2)
     .word 0x006b82b3  # add x5, x23, x6
-    .word 0x0c512c23  # sw x5, 216(x2)
+    .word 0x0c512a23  # sw x5, 212(x2)
     .word 0x09812303  # lw x6, 152(x2)
     .word 0x006c02b3  # add x5, x24, x6
-    .word 0x0c512e23  # sw x5, 220(x2)
+    .word 0x0c512c23  # sw x5, 216(x2)
     .word 0x09c12303  # lw x6, 156(x2)
     .word 0x006c82b3  # add x5, x25, x6
-    .word 0x0e512023  # sw x5, 224(x2)
-    .word 0x00000d13  # addi x26, x0, 0
+    .word 0x0c512e23  # sw x5, 220(x2)
+    .word 0xfff00d13  # addi x26, x0, -1
+    .word 0x001d0d13  # addi x26, x26, 1
     .word 0x002d1d93  # slli x27, x26, 2
     .word 0x002d8db3  # add x27, x27, x2
-    .word 0x0a4dad83  # lw x27, 164(x27)
-    .word 0x00000413  # addi x8, x0, 0
+    .word 0x0a0dad83  # lw x27, 160(x27)
+    .word 0xfff00413  # addi x8, x0, -1
+    .word 0x00140413  # addi x8, x8, 1
     .word 0x002d1293  # slli x5, x26, 2
     .word 0x008284b3  # add x9, x5, x8
     .word 0x00a4fc63  # bgeu x9, x10, 24
@@ -448,14 +343,10 @@ chacha20_xor:
     .word 0x002482b3  # add x5, x9, x2
     .word 0x02628823  # sb x6, 48(x5)
     .word 0x008ddd93  # srli x27, x27, 8
-    .word 0x00140413  # addi x8, x8, 1
-    .word 0x00443293  # sltiu x5, x8, 4
+    .word 0xffd40293  # addi x5, x8, -3
     .word 0xfc029ae3  # bne x5, x0, -44
-    .word 0xfff40413  # addi x8, x8, -1
-    .word 0x001d0d13  # addi x26, x26, 1
-    .word 0x010d3293  # sltiu x5, x26, 16
-    .word 0xfa029ae3  # bne x5, x0, -76
-    .word 0xfffd0d13  # addi x26, x26, -1
+    .word 0xff1d0293  # addi x5, x26, -15
+    .word 0xfa029ce3  # bne x5, x0, -72
     # the result
     .word 0x00000513  # addi x10, x0, 0
     # parameter 3: the array, back

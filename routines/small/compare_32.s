@@ -1,4 +1,4 @@
-# compare_32: made by factc 1.0.0 function; 77 words, 96 bytes of stack, profile 1
+# compare_32: made by factc 1.0.0 function; 75 words, 96 bytes of stack, profile 1
     .option push
     .option norvc
     .option norelax
@@ -39,11 +39,13 @@ compare_32:
     .word 0x00000713  # addi x14, x0, 0
     .word 0x00000513  # addi x10, x0, 0
     .word 0x00000593  # addi x11, x0, 0
-    .word 0x00000613  # addi x12, x0, 0
+    .word 0xfff00613  # addi x12, x0, -1
+    .word 0x00160613  # addi x12, x12, 1
     .word 0x01800293  # addi x5, x0, 24
     .word 0x00361313  # slli x6, x12, 3
     .word 0x406286b3  # sub x13, x5, x6
-    .word 0x00000713  # addi x14, x0, 0
+    .word 0xfff00713  # addi x14, x0, -1
+    .word 0x00170713  # addi x14, x14, 1
     .word 0x00700313  # addi x6, x0, 7
     .word 0x40e30333  # sub x6, x6, x14
     .word 0x006682b3  # add x5, x13, x6
@@ -58,14 +60,10 @@ compare_32:
     .word 0x40a287b3  # sub x15, x5, x10
     .word 0x01f7d513  # srli x10, x15, 31
     .word 0x00f5e5b3  # or x11, x11, x15
-    .word 0x00170713  # addi x14, x14, 1
-    .word 0x00873293  # sltiu x5, x14, 8
+    .word 0xff970293  # addi x5, x14, -7
     .word 0xfc0290e3  # bne x5, x0, -64
-    .word 0xfff70713  # addi x14, x14, -1
-    .word 0x00160613  # addi x12, x12, 1
-    .word 0x00463293  # sltiu x5, x12, 4
-    .word 0xfa0290e3  # bne x5, x0, -96
-    .word 0xfff60613  # addi x12, x12, -1
+    .word 0xffd60293  # addi x5, x12, -3
+    .word 0xfa0292e3  # bne x5, x0, -92
     .word 0x00b037b3  # sltu x15, x0, x11
     .word 0x00f782b3  # add x5, x15, x15
     .word 0x40a282b3  # sub x5, x5, x10

@@ -1,4 +1,4 @@
-# copy_if_32: made by factc 1.0.0 function; 73 words, 96 bytes of stack, profile 1
+# copy_if_32: made by factc 1.0.0 function; 70 words, 96 bytes of stack, profile 1
     .option push
     .option norvc
     .option norelax
@@ -46,7 +46,8 @@ copy_if_32:
     .word 0x00000613  # addi x12, x0, 0
     .word 0x002607b3  # add x15, x12, x2
     .word 0x40a005b3  # sub x11, x0, x10
-    .word 0x00000613  # addi x12, x0, 0
+    .word 0xfff00613  # addi x12, x0, -1
+    .word 0x00160613  # addi x12, x12, 1
     .word 0x002607b3  # add x15, x12, x2
     .word 0x0247c683  # lbu x13, 36(x15)
     .word 0x0047c283  # lbu x5, 4(x15)
@@ -54,12 +55,8 @@ copy_if_32:
     .word 0x00b2f733  # and x14, x5, x11
     .word 0x00e6c2b3  # xor x5, x13, x14
     .word 0x02578223  # sb x5, 36(x15)
-    .word 0x00160613  # addi x12, x12, 1
-    .word 0x002607b3  # add x15, x12, x2
-    .word 0x02063293  # sltiu x5, x12, 32
+    .word 0xfe160293  # addi x5, x12, -31
     .word 0xfc029ee3  # bne x5, x0, -36
-    .word 0xfff60613  # addi x12, x12, -1
-    .word 0x002607b3  # add x15, x12, x2
     # the result
     .word 0x00000513  # addi x10, x0, 0
     # parameter 2: the array, back

@@ -1,4 +1,4 @@
-# crc32: made by factc 1.0.0 function; 68 words, 96 bytes of stack, profile 1
+# crc32: made by factc 1.0.0 function; 66 words, 96 bytes of stack, profile 1
     .option push
     .option norvc
     .option norelax
@@ -37,30 +37,28 @@ crc32:
     .word 0xfff54613  # xori x12, x10, -1
     .word 0xedb886b7  # lui x13, 0xedb88
     .word 0x32068693  # addi x13, x13, 800
-    .word 0x00000713  # addi x14, x0, 0
-    .word 0x04b77663  # bgeu x14, x11, 76
+    .word 0xfff00713  # addi x14, x0, -1
+    .word 0x00170713  # addi x14, x14, 1
+    .word 0x04b77463  # bgeu x14, x11, 72
     .word 0x00270333  # add x6, x14, x2
     .word 0x00434303  # lbu x6, 4(x6)
     .word 0x00664633  # xor x12, x12, x6
-    .word 0x00000793  # addi x15, x0, 0
-    .word 0x00165293  # srli x5, x12, 1
-    .word 0x00167393  # andi x7, x12, 1
-    .word 0x407003b3  # sub x7, x0, x7
-    .word 0x0076f333  # and x6, x13, x7
-    .word 0x0062c633  # xor x12, x5, x6
-    .word 0x00165293  # srli x5, x12, 1
-    .word 0x00167393  # andi x7, x12, 1
-    .word 0x407003b3  # sub x7, x0, x7
-    .word 0x0076f333  # and x6, x13, x7
-    .word 0x0062c633  # xor x12, x5, x6
+    .word 0xfff00793  # addi x15, x0, -1
     .word 0x00178793  # addi x15, x15, 1
-    .word 0x0047b293  # sltiu x5, x15, 4
+    .word 0x00165293  # srli x5, x12, 1
+    .word 0x00167393  # andi x7, x12, 1
+    .word 0x407003b3  # sub x7, x0, x7
+    .word 0x0076f333  # and x6, x13, x7
+    .word 0x0062c633  # xor x12, x5, x6
+    .word 0x00165293  # srli x5, x12, 1
+    .word 0x00167393  # andi x7, x12, 1
+    .word 0x407003b3  # sub x7, x0, x7
+    .word 0x0076f333  # and x6, x13, x7
+    .word 0x0062c633  # xor x12, x5, x6
+    .word 0xffd78293  # addi x5, x15, -3
     .word 0xfc0298e3  # bne x5, x0, -48
-    .word 0xfff78793  # addi x15, x15, -1
-    .word 0x00170713  # addi x14, x14, 1
-    .word 0x04073293  # sltiu x5, x14, 64
-    .word 0xfa0296e3  # bne x5, x0, -84
-    .word 0xfff70713  # addi x14, x14, -1
+    .word 0xfc170293  # addi x5, x14, -63
+    .word 0xfa0298e3  # bne x5, x0, -80
     .word 0xfff64293  # xori x5, x12, -1
     .word 0x04512423  # sw x5, 72(x2)
     # the result

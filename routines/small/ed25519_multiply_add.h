@@ -6,7 +6,7 @@
 #define FACT_ed25519_multiply_add_H
 #include <stdbool.h>
 #include <stdint.h>
-#define ed25519_multiply_add_STACK_BYTES 1408
+#define ed25519_multiply_add_STACK_BYTES 1344
 #ifdef __cplusplus
 extern "C" {
 #endif

@@ -6,7 +6,7 @@
 #define FACT_ed25519_point_add_H
 #include <stdbool.h>
 #include <stdint.h>
-#define ed25519_point_add_STACK_BYTES 1280
+#define ed25519_point_add_STACK_BYTES 1216
 #ifdef __cplusplus
 extern "C" {
 #endif

@@ -6,7 +6,7 @@
 #define FACT_ed25519_reduce_H
 #include <stdbool.h>
 #include <stdint.h>
-#define ed25519_reduce_STACK_BYTES 768
+#define ed25519_reduce_STACK_BYTES 736
 #ifdef __cplusplus
 extern "C" {
 #endif

@@ -1,4 +1,4 @@
-# equal_16: made by factc 1.0.0 function; 58 words, 48 bytes of stack, profile 1
+# equal_16: made by factc 1.0.0 function; 55 words, 48 bytes of stack, profile 1
     .option push
     .option norvc
     .option norelax
@@ -38,18 +38,15 @@ equal_16:
     .word 0x00000593  # addi x11, x0, 0
     .word 0x00258633  # add x12, x11, x2
     .word 0x00000513  # addi x10, x0, 0
-    .word 0x00000593  # addi x11, x0, 0
+    .word 0xfff00593  # addi x11, x0, -1
+    .word 0x00158593  # addi x11, x11, 1
     .word 0x00258633  # add x12, x11, x2
     .word 0x00064303  # lbu x6, 0(x12)
     .word 0x01064383  # lbu x7, 16(x12)
     .word 0x00734333  # xor x6, x6, x7
     .word 0x00656533  # or x10, x10, x6
-    .word 0x00158593  # addi x11, x11, 1
-    .word 0x00258633  # add x12, x11, x2
-    .word 0x0105b293  # sltiu x5, x11, 16
+    .word 0xff158293  # addi x5, x11, -15
     .word 0xfe0292e3  # bne x5, x0, -28
-    .word 0xfff58593  # addi x11, x11, -1
-    .word 0x00258633  # add x12, x11, x2
     .word 0x00153293  # sltiu x5, x10, 1
     .word 0x02512023  # sw x5, 32(x2)
     # the result

@@ -6,7 +6,7 @@
 #define FACT_f25519_add_H
 #include <stdbool.h>
 #include <stdint.h>
-#define f25519_add_STACK_BYTES 688
+#define f25519_add_STACK_BYTES 672
 #ifdef __cplusplus
 extern "C" {
 #endif

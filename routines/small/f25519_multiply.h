@@ -6,7 +6,7 @@
 #define FACT_f25519_multiply_H
 #include <stdbool.h>
 #include <stdint.h>
-#define f25519_multiply_STACK_BYTES 800
+#define f25519_multiply_STACK_BYTES 752
 #ifdef __cplusplus
 extern "C" {
 #endif

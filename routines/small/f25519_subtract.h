@@ -6,7 +6,7 @@
 #define FACT_f25519_subtract_H
 #include <stdbool.h>
 #include <stdint.h>
-#define f25519_subtract_STACK_BYTES 704
+#define f25519_subtract_STACK_BYTES 672
 #ifdef __cplusplus
 extern "C" {
 #endif

@@ -1,4 +1,4 @@
-# gf256_multiply: made by factc 1.0.0 function; 129 words, 112 bytes of stack, profile 1
+# gf256_multiply: made by factc 1.0.0 function; 127 words, 112 bytes of stack, profile 1
     .option push
     .option norvc
     .option norelax
@@ -62,31 +62,33 @@ gf256_multiply:
     .word 0xb1b58593  # addi x11, x11, -1253
     .word 0xfeff0637  # lui x12, 0xfeff0
     .word 0xefe60613  # addi x12, x12, -258
-    .word 0x00000693  # addi x13, x0, 0
+    .word 0xfff00693  # addi x13, x0, -1
+    .word 0x00168693  # addi x13, x13, 1
     .word 0x00269713  # slli x14, x13, 2
     .word 0x00270a33  # add x20, x14, x2
     .word 0x00000793  # addi x15, x0, 0
     .word 0x000a4283  # lbu x5, 0(x20)
     .word 0x001a4303  # lbu x6, 1(x20)
     .word 0x00831313  # slli x6, x6, 8
-    .word 0x0062e833  # or x16, x5, x6
+    .word 0x0062e2b3  # or x5, x5, x6
     .word 0x002a4303  # lbu x6, 2(x20)
     .word 0x01031313  # slli x6, x6, 16
-    .word 0x006862b3  # or x5, x16, x6
+    .word 0x0062e2b3  # or x5, x5, x6
     .word 0x003a4303  # lbu x6, 3(x20)
     .word 0x01831313  # slli x6, x6, 24
     .word 0x0062e833  # or x16, x5, x6
     .word 0x010a4283  # lbu x5, 16(x20)
     .word 0x011a4303  # lbu x6, 17(x20)
     .word 0x00831313  # slli x6, x6, 8
-    .word 0x0062e8b3  # or x17, x5, x6
+    .word 0x0062e2b3  # or x5, x5, x6
     .word 0x012a4303  # lbu x6, 18(x20)
     .word 0x01031313  # slli x6, x6, 16
-    .word 0x0068e2b3  # or x5, x17, x6
+    .word 0x0062e2b3  # or x5, x5, x6
     .word 0x013a4303  # lbu x6, 19(x20)
     .word 0x01831313  # slli x6, x6, 24
     .word 0x0062e8b3  # or x17, x5, x6
-    .word 0x00000913  # addi x18, x0, 0
+    .word 0xfff00913  # addi x18, x0, -1
+    .word 0x00190913  # addi x18, x18, 1
     .word 0x00a8f9b3  # and x19, x17, x10
     .word 0x00899293  # slli x5, x19, 8
     .word 0x413282b3  # sub x5, x5, x19
@@ -101,10 +103,8 @@ gf256_multiply:
     .word 0x41330333  # sub x6, x6, x19
     .word 0x00b37333  # and x6, x6, x11
     .word 0x0062c833  # xor x16, x5, x6
-    .word 0x00190913  # addi x18, x18, 1
-    .word 0x00893293  # sltiu x5, x18, 8
+    .word 0xff990293  # addi x5, x18, -7
     .word 0xfc0290e3  # bne x5, x0, -64
-    .word 0xfff90913  # addi x18, x18, -1
     .word 0x02fa0023  # sb x15, 32(x20)
     .word 0x0087d293  # srli x5, x15, 8
     .word 0x025a00a3  # sb x5, 33(x20)
@@ -112,10 +112,8 @@ gf256_multiply:
     .word 0x025a0123  # sb x5, 34(x20)
     .word 0x0187d293  # srli x5, x15, 24
     .word 0x025a01a3  # sb x5, 35(x20)
-    .word 0x00168693  # addi x13, x13, 1
-    .word 0x0046b293  # sltiu x5, x13, 4
-    .word 0xf2029ae3  # bne x5, x0, -204
-    .word 0xfff68693  # addi x13, x13, -1
+    .word 0xffd68293  # addi x5, x13, -3
+    .word 0xf2029ce3  # bne x5, x0, -200
     # the result
     .word 0x00000513  # addi x10, x0, 0
     # parameter 2: the array, back

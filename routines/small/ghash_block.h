@@ -6,7 +6,7 @@
 #define FACT_ghash_block_H
 #include <stdbool.h>
 #include <stdint.h>
-#define ghash_block_STACK_BYTES 144
+#define ghash_block_STACK_BYTES 128
 #ifdef __cplusplus
 extern "C" {
 #endif

@@ -1,4 +1,4 @@
-# ghash_block: made by factc 1.0.0 function; 311 words, 144 bytes of stack, profile 1
+# ghash_block: made by factc 1.0.0 function; 296 words, 128 bytes of stack, profile 1
     .option push
     .option norvc
     .option norelax
@@ -40,8 +40,8 @@ ghash_block:
     .word 0x02b12c23  # sw x11, 56(x2)
     .word 0x02c12e23  # sw x12, 60(x2)
     # the frame's base
-    .word 0xfb010113  # addi x2, x2, -80
-    .cfi_def_cfa 2, 144
+    .word 0xfc010113  # addi x2, x2, -64
+    .cfi_def_cfa 2, 128
     # parameter 0: an array
     .word 0x00050293  # addi x5, x10, 0
     .word 0x00010313  # addi x6, x2, 0
@@ -70,9 +70,8 @@ ghash_block:
     .word 0x00130313  # addi x6, x6, 1
     .word 0xfe7298e3  # bne x5, x7, -16
     # the body
-    .word 0x00000993  # addi x19, x0, 0
-    .word 0x00000d93  # addi x27, x0, 0
-    .word 0x002984b3  # add x9, x19, x2
+    .word 0x00000913  # addi x18, x0, 0
+    .word 0x002904b3  # add x9, x18, x2
     .word 0x00000513  # addi x10, x0, 0
     .word 0x00000593  # addi x11, x0, 0
     .word 0x00000613  # addi x12, x0, 0
@@ -81,9 +80,9 @@ ghash_block:
     .word 0x00000793  # addi x15, x0, 0
     .word 0x00000813  # addi x16, x0, 0
     .word 0x00000893  # addi x17, x0, 0
-    .word 0x00000913  # addi x18, x0, 0
-    .word 0x00000993  # addi x19, x0, 0
-    .word 0x002984b3  # add x9, x19, x2
+    .word 0xfff00913  # addi x18, x0, -1
+    .word 0x00190913  # addi x18, x18, 1
+    .word 0x002904b3  # add x9, x18, x2
     .word 0x00851293  # slli x5, x10, 8
     .word 0x0004c303  # lbu x6, 0(x9)
     .word 0x0062e533  # or x10, x5, x6
@@ -96,140 +95,126 @@ ghash_block:
     .word 0x00869293  # slli x5, x13, 8
     .word 0x00c4c303  # lbu x6, 12(x9)
     .word 0x0062e6b3  # or x13, x5, x6
-    .word 0x00879293  # slli x5, x15, 8
+    .word 0x00871293  # slli x5, x14, 8
     .word 0x0204c303  # lbu x6, 32(x9)
     .word 0x0104c383  # lbu x7, 16(x9)
     .word 0x00734333  # xor x6, x6, x7
-    .word 0x0062e7b3  # or x15, x5, x6
-    .word 0x00881293  # slli x5, x16, 8
+    .word 0x0062e733  # or x14, x5, x6
+    .word 0x00879293  # slli x5, x15, 8
     .word 0x0244c303  # lbu x6, 36(x9)
     .word 0x0144c383  # lbu x7, 20(x9)
     .word 0x00734333  # xor x6, x6, x7
-    .word 0x0062e833  # or x16, x5, x6
-    .word 0x00889293  # slli x5, x17, 8
+    .word 0x0062e7b3  # or x15, x5, x6
+    .word 0x00881293  # slli x5, x16, 8
     .word 0x0284c303  # lbu x6, 40(x9)
     .word 0x0184c383  # lbu x7, 24(x9)
     .word 0x00734333  # xor x6, x6, x7
-    .word 0x0062e8b3  # or x17, x5, x6
-    .word 0x00891293  # slli x5, x18, 8
+    .word 0x0062e833  # or x16, x5, x6
+    .word 0x00889293  # slli x5, x17, 8
     .word 0x02c4c303  # lbu x6, 44(x9)
     .word 0x01c4c383  # lbu x7, 28(x9)
     .word 0x00734333  # xor x6, x6, x7
-    .word 0x0062e933  # or x18, x5, x6
-    .word 0x00198993  # addi x19, x19, 1
-    .word 0x002984b3  # add x9, x19, x2
-    .word 0x0049b293  # sltiu x5, x19, 4
+    .word 0x0062e8b3  # or x17, x5, x6
+    .word 0xffd90293  # addi x5, x18, -3
     .word 0xf6029ae3  # bne x5, x0, -140
-    .word 0xfff98993  # addi x19, x19, -1
-    .word 0x002984b3  # add x9, x19, x2
-    .word 0x02012823  # sw x0, 48(x2)
+    .word 0x00000993  # addi x19, x0, 0
     .word 0x00000a13  # addi x20, x0, 0
     .word 0x00000a93  # addi x21, x0, 0
     .word 0x00000b13  # addi x22, x0, 0
     .word 0x00000b93  # addi x23, x0, 0
     .word 0x00000c13  # addi x24, x0, 0
     .word 0x00000c93  # addi x25, x0, 0
-    .word 0x02012a23  # sw x0, 52(x2)
-    .word 0x04012223  # sw x0, 68(x2)
+    .word 0x00000d13  # addi x26, x0, 0
+    .word 0x02012c23  # sw x0, 56(x2)
     .word 0x02000293  # addi x5, x0, 32
-    .word 0x04512423  # sw x5, 72(x2)
-    .word 0x04412303  # lw x6, 68(x2)
-    .word 0x04812283  # lw x5, 72(x2)
+    .word 0x02512e23  # sw x5, 60(x2)
+    .word 0x03812303  # lw x6, 56(x2)
+    .word 0x03c12283  # lw x5, 60(x2)
     .word 0x005332b3  # sltu x5, x6, x5
     .word 0x00029463  # bne x5, x0, 8
-    .word 0x1280006f  # jal x0, 296
-    .word 0x02612c23  # sw x6, 56(x2)
+    .word 0x11c0006f  # jal x0, 284
+    .word 0x02612823  # sw x6, 48(x2)
     .word 0x00130313  # addi x6, x6, 1
-    .word 0x04612223  # sw x6, 68(x2)
-    .word 0x01f7d293  # srli x5, x15, 31
-    .word 0x40500d33  # sub x26, x0, x5
-    .word 0x00179793  # slli x15, x15, 1
-    .word 0x03012283  # lw x5, 48(x2)
-    .word 0x01a57333  # and x6, x10, x26
-    .word 0x0062c2b3  # xor x5, x5, x6
-    .word 0x02512823  # sw x5, 48(x2)
-    .word 0x01a5f333  # and x6, x11, x26
+    .word 0x02612c23  # sw x6, 56(x2)
+    .word 0x001d5293  # srli x5, x26, 1
+    .word 0x01fc9313  # slli x6, x25, 31
+    .word 0x0062ed33  # or x26, x5, x6
+    .word 0x001cd293  # srli x5, x25, 1
+    .word 0x01fc1313  # slli x6, x24, 31
+    .word 0x0062ecb3  # or x25, x5, x6
+    .word 0x001c5293  # srli x5, x24, 1
+    .word 0x01fb9313  # slli x6, x23, 31
+    .word 0x0062ec33  # or x24, x5, x6
+    .word 0x001bd293  # srli x5, x23, 1
+    .word 0x01fb1313  # slli x6, x22, 31
+    .word 0x0062ebb3  # or x23, x5, x6
+    .word 0x001b5293  # srli x5, x22, 1
+    .word 0x01fa9313  # slli x6, x21, 31
+    .word 0x0062eb33  # or x22, x5, x6
+    .word 0x001ad293  # srli x5, x21, 1
+    .word 0x01fa1313  # slli x6, x20, 31
+    .word 0x0062eab3  # or x21, x5, x6
+    .word 0x001a5293  # srli x5, x20, 1
+    .word 0x01f99313  # slli x6, x19, 31
+    .word 0x0062ea33  # or x20, x5, x6
+    .word 0x0019d993  # srli x19, x19, 1
+    .word 0x00177293  # andi x5, x14, 1
+    .word 0x40500db3  # sub x27, x0, x5
+    .word 0x00175713  # srli x14, x14, 1
+    .word 0x01b57333  # and x6, x10, x27
+    .word 0x0069c9b3  # xor x19, x19, x6
+    .word 0x01b5f333  # and x6, x11, x27
     .word 0x006a4a33  # xor x20, x20, x6
-    .word 0x01a67333  # and x6, x12, x26
+    .word 0x01b67333  # and x6, x12, x27
     .word 0x006acab3  # xor x21, x21, x6
-    .word 0x01a6f333  # and x6, x13, x26
+    .word 0x01b6f333  # and x6, x13, x27
     .word 0x006b4b33  # xor x22, x22, x6
-    .word 0x01a77333  # and x6, x14, x26
-    .word 0x006bcbb3  # xor x23, x23, x6
-    .word 0x01f85293  # srli x5, x16, 31
-    .word 0x40500d33  # sub x26, x0, x5
-    .word 0x00181813  # slli x16, x16, 1
-    .word 0x01a57333  # and x6, x10, x26
+    .word 0x0017f293  # andi x5, x15, 1
+    .word 0x40500db3  # sub x27, x0, x5
+    .word 0x0017d793  # srli x15, x15, 1
+    .word 0x01b57333  # and x6, x10, x27
     .word 0x006a4a33  # xor x20, x20, x6
-    .word 0x01a5f333  # and x6, x11, x26
+    .word 0x01b5f333  # and x6, x11, x27
     .word 0x006acab3  # xor x21, x21, x6
-    .word 0x01a67333  # and x6, x12, x26
+    .word 0x01b67333  # and x6, x12, x27
     .word 0x006b4b33  # xor x22, x22, x6
-    .word 0x01a6f333  # and x6, x13, x26
+    .word 0x01b6f333  # and x6, x13, x27
     .word 0x006bcbb3  # xor x23, x23, x6
-    .word 0x01a77333  # and x6, x14, x26
-    .word 0x006c4c33  # xor x24, x24, x6
-    .word 0x01f8d293  # srli x5, x17, 31
-    .word 0x40500d33  # sub x26, x0, x5
-    .word 0x00189893  # slli x17, x17, 1
-    .word 0x01a57333  # and x6, x10, x26
+    .word 0x00187293  # andi x5, x16, 1
+    .word 0x40500db3  # sub x27, x0, x5
+    .word 0x00185813  # srli x16, x16, 1
+    .word 0x01b57333  # and x6, x10, x27
     .word 0x006acab3  # xor x21, x21, x6
-    .word 0x01a5f333  # and x6, x11, x26
+    .word 0x01b5f333  # and x6, x11, x27
     .word 0x006b4b33  # xor x22, x22, x6
-    .word 0x01a67333  # and x6, x12, x26
+    .word 0x01b67333  # and x6, x12, x27
     .word 0x006bcbb3  # xor x23, x23, x6
-    .word 0x01a6f333  # and x6, x13, x26
+    .word 0x01b6f333  # and x6, x13, x27
     .word 0x006c4c33  # xor x24, x24, x6
-    .word 0x01a77333  # and x6, x14, x26
-    .word 0x006cccb3  # xor x25, x25, x6
-    .word 0x01f95293  # srli x5, x18, 31
-    .word 0x40500d33  # sub x26, x0, x5
-    .word 0x00191913  # slli x18, x18, 1
-    .word 0x01a57333  # and x6, x10, x26
+    .word 0x0018f293  # andi x5, x17, 1
+    .word 0x40500db3  # sub x27, x0, x5
+    .word 0x0018d893  # srli x17, x17, 1
+    .word 0x01b57333  # and x6, x10, x27
     .word 0x006b4b33  # xor x22, x22, x6
-    .word 0x01a5f333  # and x6, x11, x26
+    .word 0x01b5f333  # and x6, x11, x27
     .word 0x006bcbb3  # xor x23, x23, x6
-    .word 0x01a67333  # and x6, x12, x26
+    .word 0x01b67333  # and x6, x12, x27
     .word 0x006c4c33  # xor x24, x24, x6
-    .word 0x01a6f333  # and x6, x13, x26
+    .word 0x01b6f333  # and x6, x13, x27
     .word 0x006cccb3  # xor x25, x25, x6
-    .word 0x03412283  # lw x5, 52(x2)
-    .word 0x01a77333  # and x6, x14, x26
+    .word 0xed9ff06f  # jal x0, -296
+    .word 0x01ab42b3  # xor x5, x22, x26
+    .word 0x001d5313  # srli x6, x26, 1
     .word 0x0062c2b3  # xor x5, x5, x6
-    .word 0x02512a23  # sw x5, 52(x2)
-    .word 0x00175293  # srli x5, x14, 1
-    .word 0x01f69313  # slli x6, x13, 31
-    .word 0x0062e733  # or x14, x5, x6
-    .word 0x0016d293  # srli x5, x13, 1
-    .word 0x01f61313  # slli x6, x12, 31
-    .word 0x0062e6b3  # or x13, x5, x6
-    .word 0x00165293  # srli x5, x12, 1
-    .word 0x01f59313  # slli x6, x11, 31
-    .word 0x0062e633  # or x12, x5, x6
-    .word 0x0015d293  # srli x5, x11, 1
-    .word 0x01f51313  # slli x6, x10, 31
-    .word 0x0062e5b3  # or x11, x5, x6
-    .word 0x00155513  # srli x10, x10, 1
-    .word 0xecdff06f  # jal x0, -308
-    .word 0x03412303  # lw x6, 52(x2)
-    .word 0x006b42b3  # xor x5, x22, x6
-    .word 0x03412303  # lw x6, 52(x2)
-    .word 0x00135313  # srli x6, x6, 1
+    .word 0x002d5313  # srli x6, x26, 2
     .word 0x0062c2b3  # xor x5, x5, x6
-    .word 0x03412303  # lw x6, 52(x2)
-    .word 0x00235313  # srli x6, x6, 2
-    .word 0x0062c2b3  # xor x5, x5, x6
-    .word 0x03412303  # lw x6, 52(x2)
-    .word 0x00735313  # srli x6, x6, 7
+    .word 0x007d5313  # srli x6, x26, 7
     .word 0x0062cb33  # xor x22, x5, x6
-    .word 0x03412303  # lw x6, 52(x2)
-    .word 0x01f31313  # slli x6, x6, 31
+    .word 0x01fd1313  # slli x6, x26, 31
     .word 0x006bc2b3  # xor x5, x23, x6
-    .word 0x03412303  # lw x6, 52(x2)
-    .word 0x01e31313  # slli x6, x6, 30
+    .word 0x01ed1313  # slli x6, x26, 30
     .word 0x0062c2b3  # xor x5, x5, x6
-    .word 0x03412303  # lw x6, 52(x2)
-    .word 0x01931313  # slli x6, x6, 25
+    .word 0x019d1313  # slli x6, x26, 25
     .word 0x0062cbb3  # xor x23, x5, x6
     .word 0x019ac2b3  # xor x5, x21, x25
     .word 0x001cd313  # srli x6, x25, 1
@@ -257,52 +242,52 @@ ghash_block:
     .word 0x0062c2b3  # xor x5, x5, x6
     .word 0x019c1313  # slli x6, x24, 25
     .word 0x0062cab3  # xor x21, x5, x6
-    .word 0x03012283  # lw x5, 48(x2)
-    .word 0x0172c2b3  # xor x5, x5, x23
+    .word 0x0179c2b3  # xor x5, x19, x23
     .word 0x001bd313  # srli x6, x23, 1
     .word 0x0062c2b3  # xor x5, x5, x6
     .word 0x002bd313  # srli x6, x23, 2
     .word 0x0062c2b3  # xor x5, x5, x6
     .word 0x007bd313  # srli x6, x23, 7
-    .word 0x0062c2b3  # xor x5, x5, x6
-    .word 0x02512823  # sw x5, 48(x2)
+    .word 0x0062c9b3  # xor x19, x5, x6
     .word 0x01fb9313  # slli x6, x23, 31
     .word 0x006a42b3  # xor x5, x20, x6
     .word 0x01eb9313  # slli x6, x23, 30
     .word 0x0062c2b3  # xor x5, x5, x6
     .word 0x019b9313  # slli x6, x23, 25
     .word 0x0062ca33  # xor x20, x5, x6
-    .word 0x00000d93  # addi x27, x0, 0
-    .word 0x01800293  # addi x5, x0, 24
-    .word 0x003d9313  # slli x6, x27, 3
-    .word 0x406282b3  # sub x5, x5, x6
-    .word 0x02512e23  # sw x5, 60(x2)
-    .word 0x03012303  # lw x6, 48(x2)
-    .word 0x03c12383  # lw x7, 60(x2)
-    .word 0x00735333  # srl x6, x6, x7
-    .word 0x002d82b3  # add x5, x27, x2
-    .word 0x02628023  # sb x6, 32(x5)
-    .word 0x03c12383  # lw x7, 60(x2)
-    .word 0x007a5333  # srl x6, x20, x7
-    .word 0x002d82b3  # add x5, x27, x2
-    .word 0x02628223  # sb x6, 36(x5)
-    .word 0x03c12383  # lw x7, 60(x2)
-    .word 0x007ad333  # srl x6, x21, x7
-    .word 0x002d82b3  # add x5, x27, x2
-    .word 0x02628423  # sb x6, 40(x5)
-    .word 0x03c12383  # lw x7, 60(x2)
-    .word 0x007b5333  # srl x6, x22, x7
-    .word 0x002d82b3  # add x5, x27, x2
-    .word 0x02628623  # sb x6, 44(x5)
-    .word 0x001d8d93  # addi x27, x27, 1
-    .word 0x004db293  # sltiu x5, x27, 4
-    .word 0xfa0292e3  # bne x5, x0, -92
-    .word 0xfffd8d93  # addi x27, x27, -1
+    .word 0x0189d293  # srli x5, x19, 24
+    .word 0x02510023  # sb x5, 32(x2)
+    .word 0x0109d293  # srli x5, x19, 16
+    .word 0x025100a3  # sb x5, 33(x2)
+    .word 0x0089d293  # srli x5, x19, 8
+    .word 0x02510123  # sb x5, 34(x2)
+    .word 0x033101a3  # sb x19, 35(x2)
+    .word 0x018a5293  # srli x5, x20, 24
+    .word 0x02510223  # sb x5, 36(x2)
+    .word 0x010a5293  # srli x5, x20, 16
+    .word 0x025102a3  # sb x5, 37(x2)
+    .word 0x008a5293  # srli x5, x20, 8
+    .word 0x02510323  # sb x5, 38(x2)
+    .word 0x034103a3  # sb x20, 39(x2)
+    .word 0x018ad293  # srli x5, x21, 24
+    .word 0x02510423  # sb x5, 40(x2)
+    .word 0x010ad293  # srli x5, x21, 16
+    .word 0x025104a3  # sb x5, 41(x2)
+    .word 0x008ad293  # srli x5, x21, 8
+    .word 0x02510523  # sb x5, 42(x2)
+    .word 0x035105a3  # sb x21, 43(x2)
+    .word 0x018b5293  # srli x5, x22, 24
+    .word 0x02510623  # sb x5, 44(x2)
+    .word 0x010b5293  # srli x5, x22, 16
+    .word 0x025106a3  # sb x5, 45(x2)
+    .word 0x008b5293  # srli x5, x22, 8
+    .word 0x02510723  # sb x5, 46(x2)
+    .word 0x036107a3  # sb x22, 47(x2)
     # the result
     .word 0x00000513  # addi x10, x0, 0
     # parameter 2: the array, back
     .word 0x02010293  # addi x5, x2, 32
-    .word 0x08c12303  # lw x6, 140(x2)
+    .word 0x07c12303  # lw x6, 124(x2)
     .word 0x01028393  # addi x7, x5, 16
     .word 0x0002ce03  # lbu x28, 0(x5)
     .word 0x01c30023  # sb x28, 0(x6)
@@ -310,7 +295,7 @@ ghash_block:
     .word 0x00130313  # addi x6, x6, 1
     .word 0xfe7298e3  # bne x5, x7, -16
     # above the frame
-    .word 0x05010293  # addi x5, x2, 80
+    .word 0x04010293  # addi x5, x2, 64
     # the caller's registers
     .word 0x0002a483  # lw x9, 0(x5)
     .cfi_restore 9

@@ -6,7 +6,7 @@
 #define FACT_ghash_block_products_H
 #include <stdbool.h>
 #include <stdint.h>
-#define ghash_block_products_STACK_BYTES 368
+#define ghash_block_products_STACK_BYTES 352
 #ifdef __cplusplus
 extern "C" {
 #endif

@@ -6,7 +6,7 @@
 #define FACT_ghash_blocks_H
 #include <stdbool.h>
 #include <stdint.h>
-#define ghash_blocks_STACK_BYTES 656
+#define ghash_blocks_STACK_BYTES 624
 #ifdef __cplusplus
 extern "C" {
 #endif

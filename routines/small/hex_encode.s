@@ -1,4 +1,4 @@
-# hex_encode: made by factc 1.0.0 function; 108 words, 144 bytes of stack, profile 1
+# hex_encode: made by factc 1.0.0 function; 107 words, 144 bytes of stack, profile 1
     .option push
     .option norvc
     .option norelax
@@ -61,7 +61,8 @@ hex_encode:
     .word 0x03098993  # addi x19, x19, 48
     .word 0x27272a37  # lui x20, 0x27272
     .word 0x727a0a13  # addi x20, x20, 1831
-    .word 0x00000513  # addi x10, x0, 0
+    .word 0xfff00513  # addi x10, x0, -1
+    .word 0x00150513  # addi x10, x10, 1
     .word 0x00151593  # slli x11, x10, 1
     .word 0x00258ab3  # add x21, x11, x2
     .word 0x00159613  # slli x12, x11, 1
@@ -90,10 +91,8 @@ hex_encode:
     .word 0x025b0123  # sb x5, 34(x22)
     .word 0x01875293  # srli x5, x14, 24
     .word 0x025b01a3  # sb x5, 35(x22)
-    .word 0x00150513  # addi x10, x10, 1
-    .word 0x01053293  # sltiu x5, x10, 16
+    .word 0xff150293  # addi x5, x10, -15
     .word 0xf80294e3  # bne x5, x0, -120
-    .word 0xfff50513  # addi x10, x10, -1
     # the result
     .word 0x00000513  # addi x10, x0, 0
     # parameter 1: the array, back

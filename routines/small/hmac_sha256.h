@@ -6,7 +6,7 @@
 #define FACT_hmac_sha256_H
 #include <stdbool.h>
 #include <stdint.h>
-#define hmac_sha256_STACK_BYTES 976
+#define hmac_sha256_STACK_BYTES 960
 #ifdef __cplusplus
 extern "C" {
 #endif

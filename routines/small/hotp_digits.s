@@ -1,4 +1,4 @@
-# hotp_digits: made by factc 1.0.0 function; 74 words, 32 bytes of stack, profile 1
+# hotp_digits: made by factc 1.0.0 function; 71 words, 32 bytes of stack, profile 1
     .option push
     .option norvc
     .option norelax
@@ -27,7 +27,6 @@ hotp_digits:
     .word 0xfe7298e3  # bne x5, x7, -16
     # the body
     .word 0x00000693  # addi x13, x0, 0
-    .word 0x00000793  # addi x15, x0, 0
     .word 0x01314283  # lbu x5, 19(x2)
     .word 0x00f2f513  # andi x10, x5, 15
     .word 0x00014283  # lbu x5, 0(x2)
@@ -38,7 +37,8 @@ hotp_digits:
     .word 0x00214303  # lbu x6, 2(x2)
     .word 0x0062e5b3  # or x11, x5, x6
     .word 0x00000613  # addi x12, x0, 0
-    .word 0x00000693  # addi x13, x0, 0
+    .word 0xfff00693  # addi x13, x0, -1
+    .word 0x00168693  # addi x13, x13, 1
     .word 0x00859293  # slli x5, x11, 8
     .word 0x00268333  # add x6, x13, x2
     .word 0x00334303  # lbu x6, 3(x6)
@@ -48,24 +48,21 @@ hotp_digits:
     .word 0x0075f333  # and x6, x11, x7
     .word 0x00666633  # or x12, x12, x6
     .word 0xfff50513  # addi x10, x10, -1
-    .word 0x00168693  # addi x13, x13, 1
-    .word 0x0106b293  # sltiu x5, x13, 16
+    .word 0xff168293  # addi x5, x13, -15
     .word 0xfc029ae3  # bne x5, x0, -44
-    .word 0xfff68693  # addi x13, x13, -1
     .word 0x00161613  # slli x12, x12, 1
     .word 0x00165613  # srli x12, x12, 1
     .word 0x7a120737  # lui x14, 0x7a120
     .word 0x00070713  # addi x14, x14, 0
-    .word 0x00000793  # addi x15, x0, 0
+    .word 0xfff00693  # addi x13, x0, -1
+    .word 0x00168693  # addi x13, x13, 1
     .word 0x00e633b3  # sltu x7, x12, x14
     .word 0xfff38393  # addi x7, x7, -1
     .word 0x00777333  # and x6, x14, x7
     .word 0x40660633  # sub x12, x12, x6
     .word 0x00175713  # srli x14, x14, 1
-    .word 0x00178793  # addi x15, x15, 1
-    .word 0x00c7b293  # sltiu x5, x15, 12
+    .word 0xff568293  # addi x5, x13, -11
     .word 0xfe0292e3  # bne x5, x0, -28
-    .word 0xfff78793  # addi x15, x15, -1
     .word 0x00c12a23  # sw x12, 20(x2)
     # the result
     .word 0x01412503  # lw x10, 20(x2)

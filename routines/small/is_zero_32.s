@@ -1,4 +1,4 @@
-# is_zero_32: made by factc 1.0.0 function; 45 words, 48 bytes of stack, profile 1
+# is_zero_32: made by factc 1.0.0 function; 44 words, 48 bytes of stack, profile 1
     .option push
     .option norvc
     .option norelax
@@ -28,14 +28,13 @@ is_zero_32:
     # the body
     .word 0x00000593  # addi x11, x0, 0
     .word 0x00000513  # addi x10, x0, 0
-    .word 0x00000593  # addi x11, x0, 0
+    .word 0xfff00593  # addi x11, x0, -1
+    .word 0x00158593  # addi x11, x11, 1
     .word 0x00258333  # add x6, x11, x2
     .word 0x00034303  # lbu x6, 0(x6)
     .word 0x00656533  # or x10, x10, x6
-    .word 0x00158593  # addi x11, x11, 1
-    .word 0x0205b293  # sltiu x5, x11, 32
+    .word 0xfe158293  # addi x5, x11, -31
     .word 0xfe0296e3  # bne x5, x0, -20
-    .word 0xfff58593  # addi x11, x11, -1
     .word 0x00153293  # sltiu x5, x10, 1
     .word 0x02512023  # sw x5, 32(x2)
     # the result

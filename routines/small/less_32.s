@@ -1,4 +1,4 @@
-# less_32: made by factc 1.0.0 function; 73 words, 96 bytes of stack, profile 1
+# less_32: made by factc 1.0.0 function; 71 words, 96 bytes of stack, profile 1
     .option push
     .option norvc
     .option norelax
@@ -38,11 +38,13 @@ less_32:
     .word 0x00000593  # addi x11, x0, 0
     .word 0x00000693  # addi x13, x0, 0
     .word 0x00000513  # addi x10, x0, 0
-    .word 0x00000593  # addi x11, x0, 0
+    .word 0xfff00593  # addi x11, x0, -1
+    .word 0x00158593  # addi x11, x11, 1
     .word 0x01800293  # addi x5, x0, 24
     .word 0x00359313  # slli x6, x11, 3
     .word 0x40628633  # sub x12, x5, x6
-    .word 0x00000693  # addi x13, x0, 0
+    .word 0xfff00693  # addi x13, x0, -1
+    .word 0x00168693  # addi x13, x13, 1
     .word 0x00700313  # addi x6, x0, 7
     .word 0x40d30333  # sub x6, x6, x13
     .word 0x006602b3  # add x5, x12, x6
@@ -56,14 +58,10 @@ less_32:
     .word 0x406282b3  # sub x5, x5, x6
     .word 0x40a282b3  # sub x5, x5, x10
     .word 0x01f2d513  # srli x10, x5, 31
-    .word 0x00168693  # addi x13, x13, 1
-    .word 0x0086b293  # sltiu x5, x13, 8
+    .word 0xff968293  # addi x5, x13, -7
     .word 0xfc0292e3  # bne x5, x0, -60
-    .word 0xfff68693  # addi x13, x13, -1
-    .word 0x00158593  # addi x11, x11, 1
-    .word 0x0045b293  # sltiu x5, x11, 4
-    .word 0xfa0292e3  # bne x5, x0, -92
-    .word 0xfff58593  # addi x11, x11, -1
+    .word 0xffd58293  # addi x5, x11, -3
+    .word 0xfa0294e3  # bne x5, x0, -88
     .word 0xfff50293  # addi x5, x10, -1
     .word 0x0012b293  # sltiu x5, x5, 1
     .word 0x04512023  # sw x5, 64(x2)

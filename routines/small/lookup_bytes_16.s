@@ -1,4 +1,4 @@
-# lookup_bytes_16: made by factc 1.0.0 function; 84 words, 320 bytes of stack, profile 1
+# lookup_bytes_16: made by factc 1.0.0 function; 77 words, 320 bytes of stack, profile 1
     .option push
     .option norvc
     .option norelax
@@ -35,41 +35,34 @@ lookup_bytes_16:
     # the body
     .word 0x00012503  # lw x10, 0(x2)
     .word 0x00000593  # addi x11, x0, 0
-    .word 0x00000613  # addi x12, x0, 0
-    .word 0x00000793  # addi x15, x0, 0
-    .word 0x00278833  # add x16, x15, x2
-    .word 0x00000593  # addi x11, x0, 0
-    .word 0x00000313  # addi x6, x0, 0
-    .word 0x002582b3  # add x5, x11, x2
-    .word 0x10628223  # sb x6, 260(x5)
+    .word 0x00000713  # addi x14, x0, 0
+    .word 0x002707b3  # add x15, x14, x2
+    .word 0xfff00713  # addi x14, x0, -1
+    .word 0x00170713  # addi x14, x14, 1
+    .word 0x002707b3  # add x15, x14, x2
+    .word 0x10078223  # sb x0, 260(x15)
+    .word 0xff170293  # addi x5, x14, -15
+    .word 0xfe0298e3  # bne x5, x0, -16
+    .word 0xfff00593  # addi x11, x0, -1
     .word 0x00158593  # addi x11, x11, 1
-    .word 0x0105b293  # sltiu x5, x11, 16
-    .word 0xfe0296e3  # bne x5, x0, -20
-    .word 0xfff58593  # addi x11, x11, -1
-    .word 0x00000613  # addi x12, x0, 0
-    .word 0x00461693  # slli x13, x12, 4
-    .word 0x40a602b3  # sub x5, x12, x10
+    .word 0x00459613  # slli x12, x11, 4
+    .word 0x40a582b3  # sub x5, x11, x10
     .word 0x0012b293  # sltiu x5, x5, 1
-    .word 0x40500733  # sub x14, x0, x5
-    .word 0x00000793  # addi x15, x0, 0
-    .word 0x00278833  # add x16, x15, x2
-    .word 0x10484283  # lbu x5, 260(x16)
-    .word 0x00f68333  # add x6, x13, x15
+    .word 0x405006b3  # sub x13, x0, x5
+    .word 0xfff00713  # addi x14, x0, -1
+    .word 0x00170713  # addi x14, x14, 1
+    .word 0x002707b3  # add x15, x14, x2
+    .word 0x1047c283  # lbu x5, 260(x15)
+    .word 0x00e60333  # add x6, x12, x14
     .word 0x00230333  # add x6, x6, x2
     .word 0x00434303  # lbu x6, 4(x6)
-    .word 0x00e37333  # and x6, x6, x14
+    .word 0x00d37333  # and x6, x6, x13
     .word 0x0062e2b3  # or x5, x5, x6
-    .word 0x10580223  # sb x5, 260(x16)
-    .word 0x00178793  # addi x15, x15, 1
-    .word 0x00278833  # add x16, x15, x2
-    .word 0x0107b293  # sltiu x5, x15, 16
+    .word 0x10578223  # sb x5, 260(x15)
+    .word 0xff170293  # addi x5, x14, -15
     .word 0xfc029ce3  # bne x5, x0, -40
-    .word 0xfff78793  # addi x15, x15, -1
-    .word 0x00278833  # add x16, x15, x2
-    .word 0x00160613  # addi x12, x12, 1
-    .word 0x01063293  # sltiu x5, x12, 16
-    .word 0xfa0296e3  # bne x5, x0, -84
-    .word 0xfff60613  # addi x12, x12, -1
+    .word 0xff158293  # addi x5, x11, -15
+    .word 0xfa029ce3  # bne x5, x0, -72
     # the result
     .word 0x00000513  # addi x10, x0, 0
     # parameter 2: the array, back

@@ -1,4 +1,4 @@
-# lookup_bytes_32: made by factc 1.0.0 function; 87 words, 592 bytes of stack, profile 1
+# lookup_bytes_32: made by factc 1.0.0 function; 83 words, 592 bytes of stack, profile 1
     .option push
     .option norvc
     .option norelax
@@ -35,44 +35,40 @@ lookup_bytes_32:
     # the body
     .word 0x00012503  # lw x10, 0(x2)
     .word 0x00000593  # addi x11, x0, 0
-    .word 0x00000613  # addi x12, x0, 0
-    .word 0x00000813  # addi x16, x0, 0
-    .word 0x00000593  # addi x11, x0, 0
+    .word 0x00000793  # addi x15, x0, 0
+    .word 0xfff00593  # addi x11, x0, -1
+    .word 0x00158593  # addi x11, x11, 1
     .word 0x00000313  # addi x6, x0, 0
     .word 0x002582b3  # add x5, x11, x2
     .word 0x20628223  # sb x6, 516(x5)
-    .word 0x00158593  # addi x11, x11, 1
-    .word 0x0205b293  # sltiu x5, x11, 32
+    .word 0xfe158293  # addi x5, x11, -31
     .word 0xfe0296e3  # bne x5, x0, -20
-    .word 0xfff58593  # addi x11, x11, -1
-    .word 0x00000613  # addi x12, x0, 0
-    .word 0x00461693  # slli x13, x12, 4
-    .word 0x00167293  # andi x5, x12, 1
-    .word 0x00429713  # slli x14, x5, 4
-    .word 0x00165293  # srli x5, x12, 1
+    .word 0xfff00593  # addi x11, x0, -1
+    .word 0x00158593  # addi x11, x11, 1
+    .word 0x00459613  # slli x12, x11, 4
+    .word 0x0015f293  # andi x5, x11, 1
+    .word 0x00429693  # slli x13, x5, 4
+    .word 0x0015d293  # srli x5, x11, 1
     .word 0x40a282b3  # sub x5, x5, x10
     .word 0x0012b293  # sltiu x5, x5, 1
-    .word 0x405007b3  # sub x15, x0, x5
-    .word 0x00000813  # addi x16, x0, 0
-    .word 0x010702b3  # add x5, x14, x16
-    .word 0x01070333  # add x6, x14, x16
+    .word 0x40500733  # sub x14, x0, x5
+    .word 0xfff00793  # addi x15, x0, -1
+    .word 0x00178793  # addi x15, x15, 1
+    .word 0x00f682b3  # add x5, x13, x15
+    .word 0x00f68333  # add x6, x13, x15
     .word 0x00230333  # add x6, x6, x2
     .word 0x20434303  # lbu x6, 516(x6)
-    .word 0x010683b3  # add x7, x13, x16
+    .word 0x00f603b3  # add x7, x12, x15
     .word 0x002383b3  # add x7, x7, x2
     .word 0x0043c383  # lbu x7, 4(x7)
-    .word 0x00f3f3b3  # and x7, x7, x15
+    .word 0x00e3f3b3  # and x7, x7, x14
     .word 0x00736333  # or x6, x6, x7
     .word 0x002282b3  # add x5, x5, x2
     .word 0x20628223  # sb x6, 516(x5)
-    .word 0x00180813  # addi x16, x16, 1
-    .word 0x01083293  # sltiu x5, x16, 16
+    .word 0xff178293  # addi x5, x15, -15
     .word 0xfc0296e3  # bne x5, x0, -52
-    .word 0xfff80813  # addi x16, x16, -1
-    .word 0x00160613  # addi x12, x12, 1
-    .word 0x02063293  # sltiu x5, x12, 32
-    .word 0xf8029ee3  # bne x5, x0, -100
-    .word 0xfff60613  # addi x12, x12, -1
+    .word 0xfe158293  # addi x5, x11, -31
+    .word 0xfa0290e3  # bne x5, x0, -96
     # the result
     .word 0x00000513  # addi x10, x0, 0
     # parameter 2: the array, back

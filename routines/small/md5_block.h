@@ -6,7 +6,7 @@
 #define FACT_md5_block_H
 #include <stdbool.h>
 #include <stdint.h>
-#define md5_block_STACK_BYTES 448
+#define md5_block_STACK_BYTES 432
 #ifdef __cplusplus
 extern "C" {
 #endif

@@ -1,4 +1,4 @@
-# md5_block: made by factc 1.0.0 function; 588 words, 448 bytes of stack, profile 1
+# md5_block: made by factc 1.0.0 function; 573 words, 432 bytes of stack, profile 1
     .option push
     .option norvc
     .option norelax
@@ -10,22 +10,16 @@
 md5_block:
     .cfi_startproc
     # room above the frame
-    .word 0xfe010113  # addi x2, x2, -32
-    .cfi_def_cfa_offset 32
+    .word 0xff010113  # addi x2, x2, -16
+    .cfi_def_cfa_offset 16
     # the caller's registers
     .word 0x00812023  # sw x8, 0(x2)
-    .cfi_offset 8, -32
-    .word 0x01212223  # sw x18, 4(x2)
-    .cfi_offset 18, -28
-    .word 0x01312423  # sw x19, 8(x2)
-    .cfi_offset 19, -24
-    .word 0x01412623  # sw x20, 12(x2)
-    .cfi_offset 20, -20
+    .cfi_offset 8, -16
     # arguments that are needed behind the body
-    .word 0x00a12e23  # sw x10, 28(x2)
+    .word 0x00a12623  # sw x10, 12(x2)
     # the frame's base
     .word 0xe6010113  # addi x2, x2, -416
-    .cfi_def_cfa 2, 448
+    .cfi_def_cfa 2, 432
     # parameter 0: an array
     .word 0x00050293  # addi x5, x10, 0
     .word 0x00010313  # addi x6, x2, 0
@@ -46,10 +40,6 @@ md5_block:
     .word 0xfe7298e3  # bne x5, x7, -16
     # the body
     .word 0x00000513  # addi x10, x0, 0
-    .word 0x00000793  # addi x15, x0, 0
-    .word 0x00000893  # addi x17, x0, 0
-    .word 0x00000913  # addi x18, x0, 0
-    .word 0x00000993  # addi x19, x0, 0
     .word 0x04012823  # sw x0, 80(x2)
     .word 0x04012a23  # sw x0, 84(x2)
     .word 0x04012c23  # sw x0, 88(x2)
@@ -66,31 +56,30 @@ md5_block:
     .word 0x08012223  # sw x0, 132(x2)
     .word 0x08012423  # sw x0, 136(x2)
     .word 0x08012623  # sw x0, 140(x2)
-    .word 0x00000513  # addi x10, x0, 0
-    .word 0x00251813  # slli x16, x10, 2
-    .word 0x00281a13  # slli x20, x16, 2
-    .word 0x002a0a33  # add x20, x20, x2
-    .word 0x002802b3  # add x5, x16, x2
-    .word 0x0102c283  # lbu x5, 16(x5)
-    .word 0x00280333  # add x6, x16, x2
-    .word 0x01134303  # lbu x6, 17(x6)
-    .word 0x00831313  # slli x6, x6, 8
-    .word 0x0062e5b3  # or x11, x5, x6
-    .word 0x002802b3  # add x5, x16, x2
-    .word 0x0122c283  # lbu x5, 18(x5)
-    .word 0x01029293  # slli x5, x5, 16
-    .word 0x00280333  # add x6, x16, x2
-    .word 0x01334303  # lbu x6, 19(x6)
-    .word 0x01831313  # slli x6, x6, 24
-    .word 0x0062e633  # or x12, x5, x6
-    .word 0x00c5e333  # or x6, x11, x12
+    .word 0xfff00513  # addi x10, x0, -1
+    .word 0x00150513  # addi x10, x10, 1
+    .word 0x00251793  # slli x15, x10, 2
+    .word 0x00279813  # slli x16, x15, 2
+    .word 0x00280833  # add x16, x16, x2
+    .word 0x00278333  # add x6, x15, x2
+    .word 0x01034303  # lbu x6, 16(x6)
+    .word 0x002783b3  # add x7, x15, x2
+    .word 0x0113c383  # lbu x7, 17(x7)
+    .word 0x00839393  # slli x7, x7, 8
+    .word 0x00736333  # or x6, x6, x7
+    .word 0x002783b3  # add x7, x15, x2
+    .word 0x0123c383  # lbu x7, 18(x7)
+    .word 0x01039393  # slli x7, x7, 16
+    .word 0x00736333  # or x6, x6, x7
+    .word 0x002783b3  # add x7, x15, x2
+    .word 0x0133c383  # lbu x7, 19(x7)
+    .word 0x01839393  # slli x7, x7, 24
+    .word 0x00736333  # or x6, x6, x7
     .word 0x00251293  # slli x5, x10, 2
     .word 0x002282b3  # add x5, x5, x2
     .word 0x0462a823  # sw x6, 80(x5)
-    .word 0x00150513  # addi x10, x10, 1
-    .word 0x01053293  # sltiu x5, x10, 16
+    .word 0xff150293  # addi x5, x10, -15
     .word 0xfa0294e3  # bne x5, x0, -88
-    .word 0xfff50513  # addi x10, x10, -1
     .word 0xd76aa2b7  # lui x5, 0xd76aa
     .word 0x47828293  # addi x5, x5, 1144
     .word 0x08512823  # sw x5, 144(x2)
@@ -287,17 +276,18 @@ md5_block:
     .word 0x00412603  # lw x12, 4(x2)
     .word 0x00812683  # lw x13, 8(x2)
     .word 0x00c12703  # lw x14, 12(x2)
-    .word 0x00000793  # addi x15, x0, 0
+    .word 0xfff00513  # addi x10, x0, -1
+    .word 0x00150513  # addi x10, x10, 1
+    .word 0x00251793  # slli x15, x10, 2
     .word 0x00279813  # slli x16, x15, 2
-    .word 0x00281a13  # slli x20, x16, 2
-    .word 0x002a0a33  # add x20, x20, x2
+    .word 0x00280833  # add x16, x16, x2
     .word 0x00e6c433  # xor x8, x13, x14
     .word 0x008673b3  # and x7, x12, x8
     .word 0x00774333  # xor x6, x14, x7
     .word 0x006582b3  # add x5, x11, x6
-    .word 0x090a2303  # lw x6, 144(x20)
+    .word 0x09082303  # lw x6, 144(x16)
     .word 0x006282b3  # add x5, x5, x6
-    .word 0x050a2303  # lw x6, 80(x20)
+    .word 0x05082303  # lw x6, 80(x16)
     .word 0x006285b3  # add x11, x5, x6
     .word 0x00759f13  # slli x30, x11, 7
     .word 0x0195d293  # srli x5, x11, 25
@@ -307,9 +297,9 @@ md5_block:
     .word 0x0085f3b3  # and x7, x11, x8
     .word 0x0076c333  # xor x6, x13, x7
     .word 0x006702b3  # add x5, x14, x6
-    .word 0x094a2303  # lw x6, 148(x20)
+    .word 0x09482303  # lw x6, 148(x16)
     .word 0x006282b3  # add x5, x5, x6
-    .word 0x054a2303  # lw x6, 84(x20)
+    .word 0x05482303  # lw x6, 84(x16)
     .word 0x00628733  # add x14, x5, x6
     .word 0x00c71f13  # slli x30, x14, 12
     .word 0x01475293  # srli x5, x14, 20
@@ -319,9 +309,9 @@ md5_block:
     .word 0x008773b3  # and x7, x14, x8
     .word 0x00764333  # xor x6, x12, x7
     .word 0x006682b3  # add x5, x13, x6
-    .word 0x098a2303  # lw x6, 152(x20)
+    .word 0x09882303  # lw x6, 152(x16)
     .word 0x006282b3  # add x5, x5, x6
-    .word 0x058a2303  # lw x6, 88(x20)
+    .word 0x05882303  # lw x6, 88(x16)
     .word 0x006286b3  # add x13, x5, x6
     .word 0x01169f13  # slli x30, x13, 17
     .word 0x00f6d293  # srli x5, x13, 15
@@ -331,29 +321,28 @@ md5_block:
     .word 0x0086f3b3  # and x7, x13, x8
     .word 0x0075c333  # xor x6, x11, x7
     .word 0x006602b3  # add x5, x12, x6
-    .word 0x09ca2303  # lw x6, 156(x20)
+    .word 0x09c82303  # lw x6, 156(x16)
     .word 0x006282b3  # add x5, x5, x6
-    .word 0x05ca2303  # lw x6, 92(x20)
+    .word 0x05c82303  # lw x6, 92(x16)
     .word 0x00628633  # add x12, x5, x6
     .word 0x01661f13  # slli x30, x12, 22
     .word 0x00a65293  # srli x5, x12, 10
     .word 0x005f02b3  # add x5, x30, x5
     .word 0x00d28633  # add x12, x5, x13
-    .word 0x00178793  # addi x15, x15, 1
-    .word 0x0047b293  # sltiu x5, x15, 4
+    .word 0xffd50293  # addi x5, x10, -3
     .word 0xf20296e3  # bne x5, x0, -212
-    .word 0xfff78793  # addi x15, x15, -1
-    .word 0x00400893  # addi x17, x0, 4
-    .word 0x00289813  # slli x16, x17, 2
-    .word 0x00281a13  # slli x20, x16, 2
-    .word 0x002a0a33  # add x20, x20, x2
+    .word 0x00300513  # addi x10, x0, 3
+    .word 0x00150513  # addi x10, x10, 1
+    .word 0x00251793  # slli x15, x10, 2
+    .word 0x00279813  # slli x16, x15, 2
+    .word 0x00280833  # add x16, x16, x2
     .word 0x00d64433  # xor x8, x12, x13
     .word 0x008773b3  # and x7, x14, x8
     .word 0x0076c333  # xor x6, x13, x7
     .word 0x006582b3  # add x5, x11, x6
-    .word 0x090a2303  # lw x6, 144(x20)
+    .word 0x09082303  # lw x6, 144(x16)
     .word 0x006282b3  # add x5, x5, x6
-    .word 0x00180313  # addi x6, x16, 1
+    .word 0x00178313  # addi x6, x15, 1
     .word 0x00f37313  # andi x6, x6, 15
     .word 0x00231313  # slli x6, x6, 2
     .word 0x00230333  # add x6, x6, x2
@@ -367,9 +356,9 @@ md5_block:
     .word 0x0086f3b3  # and x7, x13, x8
     .word 0x00764333  # xor x6, x12, x7
     .word 0x006702b3  # add x5, x14, x6
-    .word 0x094a2303  # lw x6, 148(x20)
+    .word 0x09482303  # lw x6, 148(x16)
     .word 0x006282b3  # add x5, x5, x6
-    .word 0x00680313  # addi x6, x16, 6
+    .word 0x00678313  # addi x6, x15, 6
     .word 0x00f37313  # andi x6, x6, 15
     .word 0x00231313  # slli x6, x6, 2
     .word 0x00230333  # add x6, x6, x2
@@ -383,9 +372,9 @@ md5_block:
     .word 0x008673b3  # and x7, x12, x8
     .word 0x0075c333  # xor x6, x11, x7
     .word 0x006682b3  # add x5, x13, x6
-    .word 0x098a2303  # lw x6, 152(x20)
+    .word 0x09882303  # lw x6, 152(x16)
     .word 0x006282b3  # add x5, x5, x6
-    .word 0x00b80313  # addi x6, x16, 11
+    .word 0x00b78313  # addi x6, x15, 11
     .word 0x00f37313  # andi x6, x6, 15
     .word 0x00231313  # slli x6, x6, 2
     .word 0x00230333  # add x6, x6, x2
@@ -399,9 +388,9 @@ md5_block:
     .word 0x0085f3b3  # and x7, x11, x8
     .word 0x00774333  # xor x6, x14, x7
     .word 0x006602b3  # add x5, x12, x6
-    .word 0x09ca2303  # lw x6, 156(x20)
+    .word 0x09c82303  # lw x6, 156(x16)
     .word 0x006282b3  # add x5, x5, x6
-    .word 0x01080313  # addi x6, x16, 16
+    .word 0x01078313  # addi x6, x15, 16
     .word 0x00f37313  # andi x6, x6, 15
     .word 0x00231313  # slli x6, x6, 2
     .word 0x00230333  # add x6, x6, x2
@@ -411,21 +400,20 @@ md5_block:
     .word 0x00c65293  # srli x5, x12, 12
     .word 0x005f02b3  # add x5, x30, x5
     .word 0x00d28633  # add x12, x5, x13
-    .word 0x00188893  # addi x17, x17, 1
-    .word 0x0088b293  # sltiu x5, x17, 8
+    .word 0xff950293  # addi x5, x10, -7
     .word 0xee0296e3  # bne x5, x0, -276
-    .word 0xfff88893  # addi x17, x17, -1
-    .word 0x00800913  # addi x18, x0, 8
-    .word 0x00291813  # slli x16, x18, 2
-    .word 0x00281a13  # slli x20, x16, 2
-    .word 0x002a0a33  # add x20, x20, x2
+    .word 0x00700513  # addi x10, x0, 7
+    .word 0x00150513  # addi x10, x10, 1
+    .word 0x00251793  # slli x15, x10, 2
+    .word 0x00279813  # slli x16, x15, 2
+    .word 0x00280833  # add x16, x16, x2
     .word 0x00d64333  # xor x6, x12, x13
     .word 0x00e34333  # xor x6, x6, x14
     .word 0x006582b3  # add x5, x11, x6
-    .word 0x090a2303  # lw x6, 144(x20)
+    .word 0x09082303  # lw x6, 144(x16)
     .word 0x006282b3  # add x5, x5, x6
     .word 0x00500313  # addi x6, x0, 5
-    .word 0x41030333  # sub x6, x6, x16
+    .word 0x40f30333  # sub x6, x6, x15
     .word 0x00f37313  # andi x6, x6, 15
     .word 0x00231313  # slli x6, x6, 2
     .word 0x00230333  # add x6, x6, x2
@@ -438,10 +426,10 @@ md5_block:
     .word 0x00c5c333  # xor x6, x11, x12
     .word 0x00d34333  # xor x6, x6, x13
     .word 0x006702b3  # add x5, x14, x6
-    .word 0x094a2303  # lw x6, 148(x20)
+    .word 0x09482303  # lw x6, 148(x16)
     .word 0x006282b3  # add x5, x5, x6
     .word 0x00800313  # addi x6, x0, 8
-    .word 0x41030333  # sub x6, x6, x16
+    .word 0x40f30333  # sub x6, x6, x15
     .word 0x00f37313  # andi x6, x6, 15
     .word 0x00231313  # slli x6, x6, 2
     .word 0x00230333  # add x6, x6, x2
@@ -454,10 +442,10 @@ md5_block:
     .word 0x00b74333  # xor x6, x14, x11
     .word 0x00c34333  # xor x6, x6, x12
     .word 0x006682b3  # add x5, x13, x6
-    .word 0x098a2303  # lw x6, 152(x20)
+    .word 0x09882303  # lw x6, 152(x16)
     .word 0x006282b3  # add x5, x5, x6
     .word 0x00b00313  # addi x6, x0, 11
-    .word 0x41030333  # sub x6, x6, x16
+    .word 0x40f30333  # sub x6, x6, x15
     .word 0x00f37313  # andi x6, x6, 15
     .word 0x00231313  # slli x6, x6, 2
     .word 0x00230333  # add x6, x6, x2
@@ -470,10 +458,10 @@ md5_block:
     .word 0x00e6c333  # xor x6, x13, x14
     .word 0x00b34333  # xor x6, x6, x11
     .word 0x006602b3  # add x5, x12, x6
-    .word 0x09ca2303  # lw x6, 156(x20)
+    .word 0x09c82303  # lw x6, 156(x16)
     .word 0x006282b3  # add x5, x5, x6
     .word 0x00e00313  # addi x6, x0, 14
-    .word 0x41030333  # sub x6, x6, x16
+    .word 0x40f30333  # sub x6, x6, x15
     .word 0x00f37313  # andi x6, x6, 15
     .word 0x00231313  # slli x6, x6, 2
     .word 0x00230333  # add x6, x6, x2
@@ -483,21 +471,20 @@ md5_block:
     .word 0x00965293  # srli x5, x12, 9
     .word 0x005f02b3  # add x5, x30, x5
     .word 0x00d28633  # add x12, x5, x13
-    .word 0x00190913  # addi x18, x18, 1
-    .word 0x00c93293  # sltiu x5, x18, 12
+    .word 0xff550293  # addi x5, x10, -11
     .word 0xee0296e3  # bne x5, x0, -276
-    .word 0xfff90913  # addi x18, x18, -1
-    .word 0x00c00993  # addi x19, x0, 12
-    .word 0x00299813  # slli x16, x19, 2
-    .word 0x00281a13  # slli x20, x16, 2
-    .word 0x002a0a33  # add x20, x20, x2
+    .word 0x00b00513  # addi x10, x0, 11
+    .word 0x00150513  # addi x10, x10, 1
+    .word 0x00251793  # slli x15, x10, 2
+    .word 0x00279813  # slli x16, x15, 2
+    .word 0x00280833  # add x16, x16, x2
     .word 0xfff74413  # xori x8, x14, -1
     .word 0x008663b3  # or x7, x12, x8
     .word 0x0076c333  # xor x6, x13, x7
     .word 0x006582b3  # add x5, x11, x6
-    .word 0x090a2303  # lw x6, 144(x20)
+    .word 0x09082303  # lw x6, 144(x16)
     .word 0x006282b3  # add x5, x5, x6
-    .word 0x41000333  # sub x6, x0, x16
+    .word 0x40f00333  # sub x6, x0, x15
     .word 0x00f37313  # andi x6, x6, 15
     .word 0x00231313  # slli x6, x6, 2
     .word 0x00230333  # add x6, x6, x2
@@ -511,10 +498,10 @@ md5_block:
     .word 0x0085e3b3  # or x7, x11, x8
     .word 0x00764333  # xor x6, x12, x7
     .word 0x006702b3  # add x5, x14, x6
-    .word 0x094a2303  # lw x6, 148(x20)
+    .word 0x09482303  # lw x6, 148(x16)
     .word 0x006282b3  # add x5, x5, x6
     .word 0x00700313  # addi x6, x0, 7
-    .word 0x41030333  # sub x6, x6, x16
+    .word 0x40f30333  # sub x6, x6, x15
     .word 0x00f37313  # andi x6, x6, 15
     .word 0x00231313  # slli x6, x6, 2
     .word 0x00230333  # add x6, x6, x2
@@ -528,10 +515,10 @@ md5_block:
     .word 0x008763b3  # or x7, x14, x8
     .word 0x0075c333  # xor x6, x11, x7
     .word 0x006682b3  # add x5, x13, x6
-    .word 0x098a2303  # lw x6, 152(x20)
+    .word 0x09882303  # lw x6, 152(x16)
     .word 0x006282b3  # add x5, x5, x6
     .word 0x00e00313  # addi x6, x0, 14
-    .word 0x41030333  # sub x6, x6, x16
+    .word 0x40f30333  # sub x6, x6, x15
     .word 0x00f37313  # andi x6, x6, 15
     .word 0x00231313  # slli x6, x6, 2
     .word 0x00230333  # add x6, x6, x2
@@ -545,10 +532,10 @@ md5_block:
     .word 0x0086e3b3  # or x7, x13, x8
     .word 0x00774333  # xor x6, x14, x7
     .word 0x006602b3  # add x5, x12, x6
-    .word 0x09ca2303  # lw x6, 156(x20)
+    .word 0x09c82303  # lw x6, 156(x16)
     .word 0x006282b3  # add x5, x5, x6
     .word 0x01500313  # addi x6, x0, 21
-    .word 0x41030333  # sub x6, x6, x16
+    .word 0x40f30333  # sub x6, x6, x15
     .word 0x00f37313  # andi x6, x6, 15
     .word 0x00231313  # slli x6, x6, 2
     .word 0x00230333  # add x6, x6, x2
@@ -558,10 +545,8 @@ md5_block:
     .word 0x00b65293  # srli x5, x12, 11
     .word 0x005f02b3  # add x5, x30, x5
     .word 0x00d28633  # add x12, x5, x13
-    .word 0x00198993  # addi x19, x19, 1
-    .word 0x0109b293  # sltiu x5, x19, 16
+    .word 0xff150293  # addi x5, x10, -15
     .word 0xee0290e3  # bne x5, x0, -288
-    .word 0xfff98993  # addi x19, x19, -1
     .word 0x00012283  # lw x5, 0(x2)
     .word 0x00b282b3  # add x5, x5, x11
     .word 0x00512023  # sw x5, 0(x2)
@@ -578,7 +563,7 @@ md5_block:
     .word 0x00000513  # addi x10, x0, 0
     # parameter 0: the array, back
     .word 0x00010293  # addi x5, x2, 0
-    .word 0x1bc12303  # lw x6, 444(x2)
+    .word 0x1ac12303  # lw x6, 428(x2)
     .word 0x01028393  # addi x7, x5, 16
     .word 0x0002ae03  # lw x28, 0(x5)
     .word 0x01c32023  # sw x28, 0(x6)
@@ -590,14 +575,8 @@ md5_block:
     # the caller's registers
     .word 0x0002a403  # lw x8, 0(x5)
     .cfi_restore 8
-    .word 0x0042a903  # lw x18, 4(x5)
-    .cfi_restore 18
-    .word 0x0082a983  # lw x19, 8(x5)
-    .cfi_restore 19
-    .word 0x00c2aa03  # lw x20, 12(x5)
-    .cfi_restore 20
     # the caller's x2
-    .word 0x02028293  # addi x5, x5, 32
+    .word 0x01028293  # addi x5, x5, 16
     .cfi_def_cfa 5, 0
     # all the room, wiped upward
     .word 0x00012023  # sw x0, 0(x2)

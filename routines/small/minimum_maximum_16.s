@@ -1,4 +1,4 @@
-# minimum_maximum_16: made by factc 1.0.0 function; 65 words, 112 bytes of stack, profile 1
+# minimum_maximum_16: made by factc 1.0.0 function; 64 words, 112 bytes of stack, profile 1
     .option push
     .option norvc
     .option norelax
@@ -32,7 +32,8 @@ minimum_maximum_16:
     .word 0x00000613  # addi x12, x0, 0
     .word 0x00012503  # lw x10, 0(x2)
     .word 0x00050593  # addi x11, x10, 0
-    .word 0x00000613  # addi x12, x0, 0
+    .word 0xfff00613  # addi x12, x0, -1
+    .word 0x00160613  # addi x12, x12, 1
     .word 0x00261693  # slli x13, x12, 2
     .word 0x002686b3  # add x13, x13, x2
     .word 0x0006a683  # lw x13, 0(x13)
@@ -46,10 +47,8 @@ minimum_maximum_16:
     .word 0x00b6c333  # xor x6, x13, x11
     .word 0x00537333  # and x6, x6, x5
     .word 0x0065c5b3  # xor x11, x11, x6
-    .word 0x00160613  # addi x12, x12, 1
-    .word 0x01063293  # sltiu x5, x12, 16
+    .word 0xff160293  # addi x5, x12, -15
     .word 0xfc0292e3  # bne x5, x0, -60
-    .word 0xfff60613  # addi x12, x12, -1
     .word 0x04a12023  # sw x10, 64(x2)
     .word 0x04b12223  # sw x11, 68(x2)
     # the result

@@ -1,4 +1,4 @@
-# mlkem_compress: made by factc 1.0.0 function; 73 words, 544 bytes of stack, profile 1
+# mlkem_compress: made by factc 1.0.0 function; 68 words, 544 bytes of stack, profile 1
     .option push
     .option norvc
     .option norelax
@@ -41,7 +41,8 @@ mlkem_compress:
     .word 0x00100293  # addi x5, x0, 1
     .word 0x00b292b3  # sll x5, x5, x11
     .word 0xfff28613  # addi x12, x5, -1
-    .word 0x00000693  # addi x13, x0, 0
+    .word 0xfff00693  # addi x13, x0, -1
+    .word 0x00168693  # addi x13, x13, 1
     .word 0x00169813  # slli x16, x13, 1
     .word 0x00280833  # add x16, x16, x2
     .word 0x00085283  # lhu x5, 0(x16)
@@ -51,14 +52,8 @@ mlkem_compress:
     .word 0x00b75293  # srli x5, x14, 11
     .word 0x00c2f2b3  # and x5, x5, x12
     .word 0x00581023  # sh x5, 0(x16)
-    .word 0x00168693  # addi x13, x13, 1
-    .word 0x00169813  # slli x16, x13, 1
-    .word 0x00280833  # add x16, x16, x2
-    .word 0x1006b293  # sltiu x5, x13, 256
+    .word 0xf0168293  # addi x5, x13, -255
     .word 0xfc029ae3  # bne x5, x0, -44
-    .word 0xfff68693  # addi x13, x13, -1
-    .word 0x00169813  # slli x16, x13, 1
-    .word 0x00280833  # add x16, x16, x2
     # the result
     .word 0x00000513  # addi x10, x0, 0
     # parameter 0: the array, back

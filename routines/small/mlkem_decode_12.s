@@ -1,4 +1,4 @@
-# mlkem_decode_12: made by factc 1.0.0 function; 110 words, 944 bytes of stack, profile 1
+# mlkem_decode_12: made by factc 1.0.0 function; 109 words, 944 bytes of stack, profile 1
     .option push
     .option norvc
     .option norelax
@@ -47,7 +47,8 @@ mlkem_decode_12:
     .word 0x00000513  # addi x10, x0, 0
     .word 0x00001937  # lui x18, 0x00001
     .word 0xd0190913  # addi x18, x18, -767
-    .word 0x00000513  # addi x10, x0, 0
+    .word 0xfff00513  # addi x10, x0, -1
+    .word 0x00150513  # addi x10, x10, 1
     .word 0x00600293  # addi x5, x0, 6
     .word 0x02a285b3  # mul x11, x5, x10
     .word 0x002589b3  # add x19, x11, x2
@@ -92,10 +93,8 @@ mlkem_decode_12:
     .word 0x190a1123  # sh x16, 386(x20)
     .word 0x191a1223  # sh x17, 388(x20)
     .word 0x18da1323  # sh x13, 390(x20)
-    .word 0x00150513  # addi x10, x10, 1
-    .word 0x04053293  # sltiu x5, x10, 64
+    .word 0xfc150293  # addi x5, x10, -63
     .word 0xf40294e3  # bne x5, x0, -184
-    .word 0xfff50513  # addi x10, x10, -1
     # the result
     .word 0x00000513  # addi x10, x0, 0
     # parameter 1: the array, back

@@ -1,4 +1,4 @@
-# mlkem_decompress: made by factc 1.0.0 function; 71 words, 544 bytes of stack, profile 1
+# mlkem_decompress: made by factc 1.0.0 function; 66 words, 544 bytes of stack, profile 1
     .option push
     .option norvc
     .option norelax
@@ -41,7 +41,8 @@ mlkem_decompress:
     .word 0x0012d613  # srli x12, x5, 1
     .word 0x000016b7  # lui x13, 0x00001
     .word 0xd0168693  # addi x13, x13, -767
-    .word 0x00000713  # addi x14, x0, 0
+    .word 0xfff00713  # addi x14, x0, -1
+    .word 0x00170713  # addi x14, x14, 1
     .word 0x00171813  # slli x16, x14, 1
     .word 0x00280833  # add x16, x16, x2
     .word 0x00085283  # lhu x5, 0(x16)
@@ -49,14 +50,8 @@ mlkem_decompress:
     .word 0x00c287b3  # add x15, x5, x12
     .word 0x00b7d2b3  # srl x5, x15, x11
     .word 0x00581023  # sh x5, 0(x16)
-    .word 0x00170713  # addi x14, x14, 1
-    .word 0x00171813  # slli x16, x14, 1
-    .word 0x00280833  # add x16, x16, x2
-    .word 0x10073293  # sltiu x5, x14, 256
+    .word 0xf0170293  # addi x5, x14, -255
     .word 0xfc029ee3  # bne x5, x0, -36
-    .word 0xfff70713  # addi x14, x14, -1
-    .word 0x00171813  # slli x16, x14, 1
-    .word 0x00280833  # add x16, x16, x2
     # the result
     .word 0x00000513  # addi x10, x0, 0
     # parameter 0: the array, back

@@ -1,4 +1,4 @@
-# mlkem_encode_12: made by factc 1.0.0 function; 86 words, 928 bytes of stack, profile 1
+# mlkem_encode_12: made by factc 1.0.0 function; 85 words, 928 bytes of stack, profile 1
     .option push
     .option norvc
     .option norelax
@@ -41,7 +41,8 @@ mlkem_encode_12:
     .word 0xfe7298e3  # bne x5, x7, -16
     # the body
     .word 0x00000513  # addi x10, x0, 0
-    .word 0x00000513  # addi x10, x0, 0
+    .word 0xfff00513  # addi x10, x0, -1
+    .word 0x00150513  # addi x10, x10, 1
     .word 0x00251593  # slli x11, x10, 2
     .word 0x00159893  # slli x17, x11, 1
     .word 0x002888b3  # add x17, x17, x2
@@ -68,10 +69,8 @@ mlkem_encode_12:
     .word 0x20590223  # sb x5, 516(x18)
     .word 0x00485293  # srli x5, x16, 4
     .word 0x205902a3  # sb x5, 517(x18)
-    .word 0x00150513  # addi x10, x10, 1
-    .word 0x04053293  # sltiu x5, x10, 64
+    .word 0xfc150293  # addi x5, x10, -63
     .word 0xf80298e3  # bne x5, x0, -112
-    .word 0xfff50513  # addi x10, x10, -1
     # the result
     .word 0x00000513  # addi x10, x0, 0
     # parameter 1: the array, back

@@ -6,7 +6,7 @@
 #define FACT_mlkem_inverse_ntt_H
 #include <stdbool.h>
 #include <stdint.h>
-#define mlkem_inverse_ntt_STACK_BYTES 1136
+#define mlkem_inverse_ntt_STACK_BYTES 1120
 #ifdef __cplusplus
 extern "C" {
 #endif

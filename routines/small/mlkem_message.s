@@ -1,4 +1,4 @@
-# mlkem_message: made by factc 1.0.0 function; 75 words, 592 bytes of stack, profile 1
+# mlkem_message: made by factc 1.0.0 function; 73 words, 592 bytes of stack, profile 1
     .option push
     .option norvc
     .option norelax
@@ -40,11 +40,13 @@ mlkem_message:
     # the body
     .word 0x00000513  # addi x10, x0, 0
     .word 0x00000693  # addi x13, x0, 0
-    .word 0x00000513  # addi x10, x0, 0
+    .word 0xfff00513  # addi x10, x0, -1
+    .word 0x00150513  # addi x10, x10, 1
     .word 0x00351593  # slli x11, x10, 3
     .word 0x00250633  # add x12, x10, x2
     .word 0x00064603  # lbu x12, 0(x12)
-    .word 0x00000693  # addi x13, x0, 0
+    .word 0xfff00693  # addi x13, x0, -1
+    .word 0x00168693  # addi x13, x13, 1
     .word 0x00d582b3  # add x5, x11, x13
     .word 0x00d65333  # srl x6, x12, x13
     .word 0x00137313  # andi x6, x6, 1
@@ -53,14 +55,10 @@ mlkem_message:
     .word 0x00129293  # slli x5, x5, 1
     .word 0x002282b3  # add x5, x5, x2
     .word 0x02629023  # sh x6, 32(x5)
-    .word 0x00168693  # addi x13, x13, 1
-    .word 0x0086b293  # sltiu x5, x13, 8
+    .word 0xff968293  # addi x5, x13, -7
     .word 0xfc029ce3  # bne x5, x0, -40
-    .word 0xfff68693  # addi x13, x13, -1
-    .word 0x00150513  # addi x10, x10, 1
-    .word 0x02053293  # sltiu x5, x10, 32
-    .word 0xfa029ce3  # bne x5, x0, -72
-    .word 0xfff50513  # addi x10, x10, -1
+    .word 0xfe150293  # addi x5, x10, -31
+    .word 0xfa029ee3  # bne x5, x0, -68
     # the result
     .word 0x00000513  # addi x10, x0, 0
     # parameter 1: the array, back

@@ -1,4 +1,4 @@
-# mlkem_multiply_ntts: made by factc 1.0.0 function; 285 words, 1856 bytes of stack, profile 1
+# mlkem_multiply_ntts: made by factc 1.0.0 function; 279 words, 1856 bytes of stack, profile 1
     .option push
     .option norvc
     .option norelax
@@ -222,10 +222,12 @@ mlkem_multiply_ntts:
     .word 0x000012b7  # lui x5, 0x00001
     .word 0x86a28293  # addi x5, x5, -1942
     .word 0x6e512e23  # sw x5, 1788(x2)
-    .word 0x00000513  # addi x10, x0, 0
+    .word 0xfff00513  # addi x10, x0, -1
+    .word 0x00150513  # addi x10, x10, 1
     .word 0x00251a93  # slli x21, x10, 2
     .word 0x002a8ab3  # add x21, x21, x2
-    .word 0x00000593  # addi x11, x0, 0
+    .word 0xfff00593  # addi x11, x0, -1
+    .word 0x00158593  # addi x11, x11, 1
     .word 0x00251293  # slli x5, x10, 2
     .word 0x00159313  # slli x6, x11, 1
     .word 0x00628633  # add x12, x5, x6
@@ -260,18 +262,10 @@ mlkem_multiply_ntts:
     .word 0x406888b3  # sub x17, x17, x6
     .word 0x412b1023  # sh x18, 1024(x22)
     .word 0x411b1123  # sh x17, 1026(x22)
-    .word 0x00158593  # addi x11, x11, 1
-    .word 0x0025b293  # sltiu x5, x11, 2
+    .word 0xfff58293  # addi x5, x11, -1
     .word 0xf60298e3  # bne x5, x0, -144
-    .word 0xfff58593  # addi x11, x11, -1
-    .word 0x00150513  # addi x10, x10, 1
-    .word 0x00251a93  # slli x21, x10, 2
-    .word 0x002a8ab3  # add x21, x21, x2
-    .word 0x04053293  # sltiu x5, x10, 64
-    .word 0xf4029ae3  # bne x5, x0, -172
-    .word 0xfff50513  # addi x10, x10, -1
-    .word 0x00251a93  # slli x21, x10, 2
-    .word 0x002a8ab3  # add x21, x21, x2
+    .word 0xfc150293  # addi x5, x10, -63
+    .word 0xf4029ce3  # bne x5, x0, -168
     # the result
     .word 0x00000513  # addi x10, x0, 0
     # parameter 2: the array, back

@@ -6,7 +6,7 @@
 #define FACT_mlkem_sample_cbd2_H
 #include <stdbool.h>
 #include <stdint.h>
-#define mlkem_sample_cbd2_STACK_BYTES 704
+#define mlkem_sample_cbd2_STACK_BYTES 688
 #ifdef __cplusplus
 extern "C" {
 #endif

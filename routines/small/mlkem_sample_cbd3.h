@@ -6,7 +6,7 @@
 #define FACT_mlkem_sample_cbd3_H
 #include <stdbool.h>
 #include <stdint.h>
-#define mlkem_sample_cbd3_STACK_BYTES 768
+#define mlkem_sample_cbd3_STACK_BYTES 752
 #ifdef __cplusplus
 extern "C" {
 #endif

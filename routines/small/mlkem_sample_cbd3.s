@@ -1,4 +1,4 @@
-# mlkem_sample_cbd3: made by factc 1.0.0 function; 115 words, 768 bytes of stack, profile 1
+# mlkem_sample_cbd3: made by factc 1.0.0 function; 110 words, 752 bytes of stack, profile 1
     .option push
     .option norvc
     .option norelax
@@ -10,23 +10,19 @@
 mlkem_sample_cbd3:
     .cfi_startproc
     # room above the frame
-    .word 0xfe010113  # addi x2, x2, -32
-    .cfi_def_cfa_offset 32
+    .word 0xff010113  # addi x2, x2, -16
+    .cfi_def_cfa_offset 16
     # the caller's registers
     .word 0x01212023  # sw x18, 0(x2)
-    .cfi_offset 18, -32
+    .cfi_offset 18, -16
     .word 0x01312223  # sw x19, 4(x2)
-    .cfi_offset 19, -28
-    .word 0x01412423  # sw x20, 8(x2)
-    .cfi_offset 20, -24
-    .word 0x01512623  # sw x21, 12(x2)
-    .cfi_offset 21, -20
+    .cfi_offset 19, -12
     # arguments that are needed behind the body
-    .word 0x00a12c23  # sw x10, 24(x2)
-    .word 0x00b12e23  # sw x11, 28(x2)
+    .word 0x00a12423  # sw x10, 8(x2)
+    .word 0x00b12623  # sw x11, 12(x2)
     # the frame's base
     .word 0xd2010113  # addi x2, x2, -736
-    .cfi_def_cfa 2, 768
+    .cfi_def_cfa 2, 752
     # parameter 0: an array
     .word 0x00050293  # addi x5, x10, 0
     .word 0x00010313  # addi x6, x2, 0
@@ -47,65 +43,64 @@ mlkem_sample_cbd3:
     .word 0xfe7298e3  # bne x5, x7, -16
     # the body
     .word 0x00000613  # addi x12, x0, 0
-    .word 0x00000813  # addi x16, x0, 0
-    .word 0x001c79b7  # lui x19, 0x001c7
-    .word 0x1c798993  # addi x19, x19, 455
-    .word 0x00208a37  # lui x20, 0x00208
-    .word 0x208a0a13  # addi x20, x20, 520
+    .word 0x001c7937  # lui x18, 0x001c7
+    .word 0x1c790913  # addi x18, x18, 455
+    .word 0x002089b7  # lui x19, 0x00208
+    .word 0x20898993  # addi x19, x19, 520
     .word 0x00001537  # lui x10, 0x00001
     .word 0xd0150513  # addi x10, x10, -767
     .word 0x002495b7  # lui x11, 0x00249
     .word 0x24958593  # addi x11, x11, 585
-    .word 0x00000613  # addi x12, x0, 0
+    .word 0xfff00613  # addi x12, x0, -1
+    .word 0x00160613  # addi x12, x12, 1
     .word 0x00161293  # slli x5, x12, 1
-    .word 0x00c286b3  # add x13, x5, x12
-    .word 0x00268ab3  # add x21, x13, x2
-    .word 0x00261713  # slli x14, x12, 2
-    .word 0x000ac283  # lbu x5, 0(x21)
-    .word 0x001ac303  # lbu x6, 1(x21)
+    .word 0x00c287b3  # add x15, x5, x12
+    .word 0x00261693  # slli x13, x12, 2
+    .word 0x002782b3  # add x5, x15, x2
+    .word 0x0002c283  # lbu x5, 0(x5)
+    .word 0x00278333  # add x6, x15, x2
+    .word 0x00134303  # lbu x6, 1(x6)
     .word 0x00831313  # slli x6, x6, 8
     .word 0x0062e2b3  # or x5, x5, x6
-    .word 0x002ac303  # lbu x6, 2(x21)
+    .word 0x00278333  # add x6, x15, x2
+    .word 0x00234303  # lbu x6, 2(x6)
     .word 0x01031313  # slli x6, x6, 16
-    .word 0x0062e8b3  # or x17, x5, x6
-    .word 0x00b8f2b3  # and x5, x17, x11
-    .word 0x0018d313  # srli x6, x17, 1
+    .word 0x0062e833  # or x16, x5, x6
+    .word 0x00b872b3  # and x5, x16, x11
+    .word 0x00185313  # srli x6, x16, 1
     .word 0x00b37333  # and x6, x6, x11
     .word 0x006282b3  # add x5, x5, x6
-    .word 0x0028d313  # srli x6, x17, 2
+    .word 0x00285313  # srli x6, x16, 2
     .word 0x00b37333  # and x6, x6, x11
-    .word 0x006288b3  # add x17, x5, x6
-    .word 0x0138f2b3  # and x5, x17, x19
-    .word 0x014282b3  # add x5, x5, x20
-    .word 0x0038d313  # srli x6, x17, 3
-    .word 0x01337333  # and x6, x6, x19
-    .word 0x406287b3  # sub x15, x5, x6
-    .word 0x00000813  # addi x16, x0, 0
+    .word 0x00628833  # add x16, x5, x6
+    .word 0x012872b3  # and x5, x16, x18
+    .word 0x013282b3  # add x5, x5, x19
+    .word 0x00385313  # srli x6, x16, 3
+    .word 0x01237333  # and x6, x6, x18
+    .word 0x40628733  # sub x14, x5, x6
+    .word 0xfff00793  # addi x15, x0, -1
+    .word 0x00178793  # addi x15, x15, 1
     .word 0x00600313  # addi x6, x0, 6
-    .word 0x03030333  # mul x6, x6, x16
-    .word 0x0067d2b3  # srl x5, x15, x6
+    .word 0x02f30333  # mul x6, x6, x15
+    .word 0x006752b3  # srl x5, x14, x6
     .word 0x00f2f293  # andi x5, x5, 15
-    .word 0xff828893  # addi x17, x5, -8
-    .word 0x0108d293  # srli x5, x17, 16
-    .word 0x00a2f933  # and x18, x5, x10
-    .word 0x010702b3  # add x5, x14, x16
-    .word 0x01288333  # add x6, x17, x18
+    .word 0xff828813  # addi x16, x5, -8
+    .word 0x01085293  # srli x5, x16, 16
+    .word 0x00a2f8b3  # and x17, x5, x10
+    .word 0x00f682b3  # add x5, x13, x15
+    .word 0x01180333  # add x6, x16, x17
     .word 0x00129293  # slli x5, x5, 1
     .word 0x002282b3  # add x5, x5, x2
     .word 0x0c629023  # sh x6, 192(x5)
-    .word 0x00180813  # addi x16, x16, 1
-    .word 0x00483293  # sltiu x5, x16, 4
+    .word 0xffd78293  # addi x5, x15, -3
     .word 0xfc0294e3  # bne x5, x0, -56
-    .word 0xfff80813  # addi x16, x16, -1
-    .word 0x00160613  # addi x12, x12, 1
-    .word 0x04063293  # sltiu x5, x12, 64
-    .word 0xf4029ce3  # bne x5, x0, -168
-    .word 0xfff60613  # addi x12, x12, -1
+    .word 0xfc160293  # addi x5, x12, -63
+    .word 0xf4029ae3  # bne x5, x0, -172
     # the result
     .word 0x00000513  # addi x10, x0, 0
     # parameter 1: the array, back
     .word 0x0c010293  # addi x5, x2, 192
-    .word 0x2fc12303  # lw x6, 764(x2)
+    .word 0x2ec12303  # lw x6, 748(x2)
     .word 0x20028393  # addi x7, x5, 512
     .word 0x0002de03  # lhu x28, 0(x5)
     .word 0x01c31023  # sh x28, 0(x6)
@@ -119,12 +114,8 @@ mlkem_sample_cbd3:
     .cfi_restore 18
     .word 0x0042a983  # lw x19, 4(x5)
     .cfi_restore 19
-    .word 0x0082aa03  # lw x20, 8(x5)
-    .cfi_restore 20
-    .word 0x00c2aa83  # lw x21, 12(x5)
-    .cfi_restore 21
     # the caller's x2
-    .word 0x02028293  # addi x5, x5, 32
+    .word 0x01028293  # addi x5, x5, 16
     .cfi_def_cfa 5, 0
     # all the room, wiped upward
     .word 0x00012023  # sw x0, 0(x2)

@@ -1,4 +1,4 @@
-# mlkem_subtract: made by factc 1.0.0 function; 74 words, 1056 bytes of stack, profile 1
+# mlkem_subtract: made by factc 1.0.0 function; 69 words, 1056 bytes of stack, profile 1
     .option push
     .option norvc
     .option norelax
@@ -42,7 +42,8 @@ mlkem_subtract:
     .word 0x00270733  # add x14, x14, x2
     .word 0x00001537  # lui x10, 0x00001
     .word 0xd0150513  # addi x10, x10, -767
-    .word 0x00000593  # addi x11, x0, 0
+    .word 0xfff00593  # addi x11, x0, -1
+    .word 0x00158593  # addi x11, x11, 1
     .word 0x00159713  # slli x14, x11, 1
     .word 0x00270733  # add x14, x14, x2
     .word 0x00075283  # lhu x5, 0(x14)
@@ -52,14 +53,8 @@ mlkem_subtract:
     .word 0x00a2f6b3  # and x13, x5, x10
     .word 0x00d602b3  # add x5, x12, x13
     .word 0x00571023  # sh x5, 0(x14)
-    .word 0x00158593  # addi x11, x11, 1
-    .word 0x00159713  # slli x14, x11, 1
-    .word 0x00270733  # add x14, x14, x2
-    .word 0x1005b293  # sltiu x5, x11, 256
+    .word 0xf0158293  # addi x5, x11, -255
     .word 0xfc029ae3  # bne x5, x0, -44
-    .word 0xfff58593  # addi x11, x11, -1
-    .word 0x00159713  # slli x14, x11, 1
-    .word 0x00270733  # add x14, x14, x2
     # the result
     .word 0x00000513  # addi x10, x0, 0
     # parameter 0: the array, back

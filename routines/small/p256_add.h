@@ -6,7 +6,7 @@
 #define FACT_p256_add_H
 #include <stdbool.h>
 #include <stdint.h>
-#define p256_add_STACK_BYTES 192
+#define p256_add_STACK_BYTES 160
 #ifdef __cplusplus
 extern "C" {
 #endif

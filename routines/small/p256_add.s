@@ -1,4 +1,4 @@
-# p256_add: made by factc 1.0.0 function; 221 words, 192 bytes of stack, profile 1
+# p256_add: made by factc 1.0.0 function; 162 words, 160 bytes of stack, profile 1
     .option push
     .option norvc
     .option norelax
@@ -10,30 +10,16 @@
 p256_add:
     .cfi_startproc
     # room above the frame
-    .word 0xfd010113  # addi x2, x2, -48
-    .cfi_def_cfa_offset 48
+    .word 0xff010113  # addi x2, x2, -16
+    .cfi_def_cfa_offset 16
     # the caller's registers
-    .word 0x01212023  # sw x18, 0(x2)
-    .cfi_offset 18, -48
-    .word 0x01312223  # sw x19, 4(x2)
-    .cfi_offset 19, -44
-    .word 0x01412423  # sw x20, 8(x2)
-    .cfi_offset 20, -40
-    .word 0x01512623  # sw x21, 12(x2)
-    .cfi_offset 21, -36
-    .word 0x01612823  # sw x22, 16(x2)
-    .cfi_offset 22, -32
-    .word 0x01712a23  # sw x23, 20(x2)
-    .cfi_offset 23, -28
-    .word 0x01812c23  # sw x24, 24(x2)
-    .cfi_offset 24, -24
     # arguments that are needed behind the body
-    .word 0x02a12223  # sw x10, 36(x2)
-    .word 0x02b12423  # sw x11, 40(x2)
-    .word 0x02c12623  # sw x12, 44(x2)
+    .word 0x00a12223  # sw x10, 4(x2)
+    .word 0x00b12423  # sw x11, 8(x2)
+    .word 0x00c12623  # sw x12, 12(x2)
     # the frame's base
     .word 0xf7010113  # addi x2, x2, -144
-    .cfi_def_cfa 2, 192
+    .cfi_def_cfa 2, 160
     # parameter 0: an array
     .word 0x00050293  # addi x5, x10, 0
     .word 0x00010313  # addi x6, x2, 0
@@ -54,23 +40,8 @@ p256_add:
     .word 0xfe7298e3  # bne x5, x7, -16
     # the body
     .word 0x00000593  # addi x11, x0, 0
-    .word 0x00000713  # addi x14, x0, 0
-    .word 0x00000793  # addi x15, x0, 0
-    .word 0x00000813  # addi x16, x0, 0
-    .word 0x00000893  # addi x17, x0, 0
-    .word 0x00000913  # addi x18, x0, 0
-    .word 0x00259993  # slli x19, x11, 2
-    .word 0x002989b3  # add x19, x19, x2
-    .word 0x00271a13  # slli x20, x14, 2
-    .word 0x002a0a33  # add x20, x20, x2
-    .word 0x00279a93  # slli x21, x15, 2
-    .word 0x002a8ab3  # add x21, x21, x2
-    .word 0x00281b13  # slli x22, x16, 2
-    .word 0x002b0b33  # add x22, x22, x2
-    .word 0x00289b93  # slli x23, x17, 2
-    .word 0x002b8bb3  # add x23, x23, x2
-    .word 0x00291c13  # slli x24, x18, 2
-    .word 0x002c0c33  # add x24, x24, x2
+    .word 0x00259713  # slli x14, x11, 2
+    .word 0x00270733  # add x14, x14, x2
     .word 0x06000313  # addi x6, x0, 96
     .word 0x00230333  # add x6, x6, x2
     .word 0x02000393  # addi x7, x0, 32
@@ -82,60 +53,45 @@ p256_add:
     .word 0x00430313  # addi x6, x6, 4
     .word 0xfedff06f  # jal x0, -20
     .word 0x00000513  # addi x10, x0, 0
-    .word 0x00000593  # addi x11, x0, 0
-    .word 0x00259993  # slli x19, x11, 2
-    .word 0x002989b3  # add x19, x19, x2
-    .word 0x0009a683  # lw x13, 0(x19)
-    .word 0x0209a303  # lw x6, 32(x19)
+    .word 0xfff00593  # addi x11, x0, -1
+    .word 0x00158593  # addi x11, x11, 1
+    .word 0x00259713  # slli x14, x11, 2
+    .word 0x00270733  # add x14, x14, x2
+    .word 0x00072683  # lw x13, 0(x14)
+    .word 0x02072303  # lw x6, 32(x14)
     .word 0x00668633  # add x12, x13, x6
     .word 0x00a602b3  # add x5, x12, x10
-    .word 0x0659a023  # sw x5, 96(x19)
+    .word 0x06572023  # sw x5, 96(x14)
     .word 0x00d632b3  # sltu x5, x12, x13
-    .word 0x0609a303  # lw x6, 96(x19)
+    .word 0x06072303  # lw x6, 96(x14)
     .word 0x00a33333  # sltu x6, x6, x10
     .word 0x00628533  # add x10, x5, x6
-    .word 0x00158593  # addi x11, x11, 1
-    .word 0x00259993  # slli x19, x11, 2
-    .word 0x002989b3  # add x19, x19, x2
-    .word 0x0085b293  # sltiu x5, x11, 8
+    .word 0xff958293  # addi x5, x11, -7
     .word 0xfc0296e3  # bne x5, x0, -52
-    .word 0xfff58593  # addi x11, x11, -1
-    .word 0x00259993  # slli x19, x11, 2
-    .word 0x002989b3  # add x19, x19, x2
     .word 0x00100693  # addi x13, x0, 1
-    .word 0x00000713  # addi x14, x0, 0
-    .word 0x00271a13  # slli x20, x14, 2
-    .word 0x002a0a33  # add x20, x20, x2
-    .word 0x060a2283  # lw x5, 96(x20)
+    .word 0xfff00593  # addi x11, x0, -1
+    .word 0x00158593  # addi x11, x11, 1
+    .word 0x00259713  # slli x14, x11, 2
+    .word 0x00270733  # add x14, x14, x2
+    .word 0x06072283  # lw x5, 96(x14)
     .word 0x00d282b3  # add x5, x5, x13
-    .word 0x065a2023  # sw x5, 96(x20)
-    .word 0x060a2283  # lw x5, 96(x20)
+    .word 0x06572023  # sw x5, 96(x14)
+    .word 0x06072283  # lw x5, 96(x14)
     .word 0x00d2b6b3  # sltu x13, x5, x13
-    .word 0x00170713  # addi x14, x14, 1
-    .word 0x00271a13  # slli x20, x14, 2
-    .word 0x002a0a33  # add x20, x20, x2
-    .word 0x00373293  # sltiu x5, x14, 3
+    .word 0xffe58293  # addi x5, x11, -2
     .word 0xfc029ee3  # bne x5, x0, -36
-    .word 0xfff70713  # addi x14, x14, -1
-    .word 0x00271a13  # slli x20, x14, 2
-    .word 0x002a0a33  # add x20, x20, x2
     .word 0x00100293  # addi x5, x0, 1
     .word 0x40d286b3  # sub x13, x5, x13
-    .word 0x00300793  # addi x15, x0, 3
-    .word 0x00279a93  # slli x21, x15, 2
-    .word 0x002a8ab3  # add x21, x21, x2
-    .word 0x060aa603  # lw x12, 96(x21)
+    .word 0x00200593  # addi x11, x0, 2
+    .word 0x00158593  # addi x11, x11, 1
+    .word 0x00259713  # slli x14, x11, 2
+    .word 0x00270733  # add x14, x14, x2
+    .word 0x06072603  # lw x12, 96(x14)
     .word 0x40d602b3  # sub x5, x12, x13
-    .word 0x065aa023  # sw x5, 96(x21)
+    .word 0x06572023  # sw x5, 96(x14)
     .word 0x00d636b3  # sltu x13, x12, x13
-    .word 0x00178793  # addi x15, x15, 1
-    .word 0x00279a93  # slli x21, x15, 2
-    .word 0x002a8ab3  # add x21, x21, x2
-    .word 0x0067b293  # sltiu x5, x15, 6
+    .word 0xffb58293  # addi x5, x11, -5
     .word 0xfe0290e3  # bne x5, x0, -32
-    .word 0xfff78793  # addi x15, x15, -1
-    .word 0x00279a93  # slli x21, x15, 2
-    .word 0x002a8ab3  # add x21, x21, x2
     .word 0x00168693  # addi x13, x13, 1
     .word 0x07812603  # lw x12, 120(x2)
     .word 0x40d602b3  # sub x5, x12, x13
@@ -152,38 +108,28 @@ p256_add:
     .word 0x40a282b3  # sub x5, x5, x10
     .word 0x40d28633  # sub x12, x5, x13
     .word 0x00060693  # addi x13, x12, 0
-    .word 0x00000813  # addi x16, x0, 0
-    .word 0x00281b13  # slli x22, x16, 2
-    .word 0x002b0b33  # add x22, x22, x2
-    .word 0x060b2503  # lw x10, 96(x22)
+    .word 0xfff00593  # addi x11, x0, -1
+    .word 0x00158593  # addi x11, x11, 1
+    .word 0x00259713  # slli x14, x11, 2
+    .word 0x00270733  # add x14, x14, x2
+    .word 0x06072503  # lw x10, 96(x14)
     .word 0x40d502b3  # sub x5, x10, x13
-    .word 0x065b2023  # sw x5, 96(x22)
+    .word 0x06572023  # sw x5, 96(x14)
     .word 0x00d536b3  # sltu x13, x10, x13
-    .word 0x00180813  # addi x16, x16, 1
-    .word 0x00281b13  # slli x22, x16, 2
-    .word 0x002b0b33  # add x22, x22, x2
-    .word 0x00383293  # sltiu x5, x16, 3
+    .word 0xffe58293  # addi x5, x11, -2
     .word 0xfe0290e3  # bne x5, x0, -32
-    .word 0xfff80813  # addi x16, x16, -1
-    .word 0x00281b13  # slli x22, x16, 2
-    .word 0x002b0b33  # add x22, x22, x2
     .word 0x40d606b3  # sub x13, x12, x13
-    .word 0x00300893  # addi x17, x0, 3
-    .word 0x00289b93  # slli x23, x17, 2
-    .word 0x002b8bb3  # add x23, x23, x2
-    .word 0x060ba283  # lw x5, 96(x23)
+    .word 0x00200593  # addi x11, x0, 2
+    .word 0x00158593  # addi x11, x11, 1
+    .word 0x00259713  # slli x14, x11, 2
+    .word 0x00270733  # add x14, x14, x2
+    .word 0x06072283  # lw x5, 96(x14)
     .word 0x00d282b3  # add x5, x5, x13
-    .word 0x065ba023  # sw x5, 96(x23)
-    .word 0x060ba283  # lw x5, 96(x23)
+    .word 0x06572023  # sw x5, 96(x14)
+    .word 0x06072283  # lw x5, 96(x14)
     .word 0x00d2b6b3  # sltu x13, x5, x13
-    .word 0x00188893  # addi x17, x17, 1
-    .word 0x00289b93  # slli x23, x17, 2
-    .word 0x002b8bb3  # add x23, x23, x2
-    .word 0x0068b293  # sltiu x5, x17, 6
+    .word 0xffb58293  # addi x5, x11, -5
     .word 0xfc029ee3  # bne x5, x0, -36
-    .word 0xfff88893  # addi x17, x17, -1
-    .word 0x00289b93  # slli x23, x17, 2
-    .word 0x002b8bb3  # add x23, x23, x2
     .word 0x00c686b3  # add x13, x13, x12
     .word 0x07812283  # lw x5, 120(x2)
     .word 0x00d282b3  # add x5, x5, x13
@@ -194,24 +140,19 @@ p256_add:
     .word 0x00d282b3  # add x5, x5, x13
     .word 0x40c282b3  # sub x5, x5, x12
     .word 0x06512e23  # sw x5, 124(x2)
-    .word 0x00000913  # addi x18, x0, 0
-    .word 0x00291c13  # slli x24, x18, 2
-    .word 0x002c0c33  # add x24, x24, x2
-    .word 0x060c2283  # lw x5, 96(x24)
-    .word 0x045c2023  # sw x5, 64(x24)
-    .word 0x00190913  # addi x18, x18, 1
-    .word 0x00291c13  # slli x24, x18, 2
-    .word 0x002c0c33  # add x24, x24, x2
-    .word 0x00893293  # sltiu x5, x18, 8
+    .word 0xfff00593  # addi x11, x0, -1
+    .word 0x00158593  # addi x11, x11, 1
+    .word 0x00259713  # slli x14, x11, 2
+    .word 0x00270733  # add x14, x14, x2
+    .word 0x06072283  # lw x5, 96(x14)
+    .word 0x04572023  # sw x5, 64(x14)
+    .word 0xff958293  # addi x5, x11, -7
     .word 0xfe0294e3  # bne x5, x0, -24
-    .word 0xfff90913  # addi x18, x18, -1
-    .word 0x00291c13  # slli x24, x18, 2
-    .word 0x002c0c33  # add x24, x24, x2
     # the result
     .word 0x00000513  # addi x10, x0, 0
     # parameter 2: the array, back
     .word 0x04010293  # addi x5, x2, 64
-    .word 0x0bc12303  # lw x6, 188(x2)
+    .word 0x09c12303  # lw x6, 156(x2)
     .word 0x02028393  # addi x7, x5, 32
     .word 0x0002ae03  # lw x28, 0(x5)
     .word 0x01c32023  # sw x28, 0(x6)
@@ -221,22 +162,8 @@ p256_add:
     # above the frame
     .word 0x09010293  # addi x5, x2, 144
     # the caller's registers
-    .word 0x0002a903  # lw x18, 0(x5)
-    .cfi_restore 18
-    .word 0x0042a983  # lw x19, 4(x5)
-    .cfi_restore 19
-    .word 0x0082aa03  # lw x20, 8(x5)
-    .cfi_restore 20
-    .word 0x00c2aa83  # lw x21, 12(x5)
-    .cfi_restore 21
-    .word 0x0102ab03  # lw x22, 16(x5)
-    .cfi_restore 22
-    .word 0x0142ab83  # lw x23, 20(x5)
-    .cfi_restore 23
-    .word 0x0182ac03  # lw x24, 24(x5)
-    .cfi_restore 24
     # the caller's x2
-    .word 0x03028293  # addi x5, x5, 48
+    .word 0x01028293  # addi x5, x5, 16
     .cfi_def_cfa 5, 0
     # all the room, wiped upward
     .word 0x00012023  # sw x0, 0(x2)

@@ -6,7 +6,7 @@
 #define FACT_p256_from_bytes_H
 #include <stdbool.h>
 #include <stdint.h>
-#define p256_from_bytes_STACK_BYTES 848
+#define p256_from_bytes_STACK_BYTES 800
 #ifdef __cplusplus
 extern "C" {
 #endif

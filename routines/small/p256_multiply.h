@@ -6,7 +6,7 @@
 #define FACT_p256_multiply_H
 #include <stdbool.h>
 #include <stdint.h>
-#define p256_multiply_STACK_BYTES 832
+#define p256_multiply_STACK_BYTES 784
 #ifdef __cplusplus
 extern "C" {
 #endif

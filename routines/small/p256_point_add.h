@@ -6,7 +6,7 @@
 #define FACT_p256_point_add_H
 #include <stdbool.h>
 #include <stdint.h>
-#define p256_point_add_STACK_BYTES 1280
+#define p256_point_add_STACK_BYTES 1200
 #ifdef __cplusplus
 extern "C" {
 #endif

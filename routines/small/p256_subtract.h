@@ -6,7 +6,7 @@
 #define FACT_p256_subtract_H
 #include <stdbool.h>
 #include <stdint.h>
-#define p256_subtract_STACK_BYTES 176
+#define p256_subtract_STACK_BYTES 160
 #ifdef __cplusplus
 extern "C" {
 #endif

@@ -1,4 +1,4 @@
-# p256_subtract: made by factc 1.0.0 function; 159 words, 176 bytes of stack, profile 1
+# p256_subtract: made by factc 1.0.0 function; 122 words, 160 bytes of stack, profile 1
     .option push
     .option norvc
     .option norelax
@@ -10,24 +10,16 @@
 p256_subtract:
     .cfi_startproc
     # room above the frame
-    .word 0xfe010113  # addi x2, x2, -32
-    .cfi_def_cfa_offset 32
+    .word 0xff010113  # addi x2, x2, -16
+    .cfi_def_cfa_offset 16
     # the caller's registers
-    .word 0x01212023  # sw x18, 0(x2)
-    .cfi_offset 18, -32
-    .word 0x01312223  # sw x19, 4(x2)
-    .cfi_offset 19, -28
-    .word 0x01412423  # sw x20, 8(x2)
-    .cfi_offset 20, -24
-    .word 0x01512623  # sw x21, 12(x2)
-    .cfi_offset 21, -20
     # arguments that are needed behind the body
-    .word 0x00a12a23  # sw x10, 20(x2)
-    .word 0x00b12c23  # sw x11, 24(x2)
-    .word 0x00c12e23  # sw x12, 28(x2)
+    .word 0x00a12223  # sw x10, 4(x2)
+    .word 0x00b12423  # sw x11, 8(x2)
+    .word 0x00c12623  # sw x12, 12(x2)
     # the frame's base
     .word 0xf7010113  # addi x2, x2, -144
-    .cfi_def_cfa 2, 176
+    .cfi_def_cfa 2, 160
     # parameter 0: an array
     .word 0x00050293  # addi x5, x10, 0
     .word 0x00010313  # addi x6, x2, 0
@@ -48,17 +40,8 @@ p256_subtract:
     .word 0xfe7298e3  # bne x5, x7, -16
     # the body
     .word 0x00000593  # addi x11, x0, 0
-    .word 0x00000713  # addi x14, x0, 0
-    .word 0x00000813  # addi x16, x0, 0
-    .word 0x00000893  # addi x17, x0, 0
-    .word 0x00259913  # slli x18, x11, 2
-    .word 0x00290933  # add x18, x18, x2
-    .word 0x00271993  # slli x19, x14, 2
-    .word 0x002989b3  # add x19, x19, x2
-    .word 0x00281a13  # slli x20, x16, 2
-    .word 0x002a0a33  # add x20, x20, x2
-    .word 0x00289a93  # slli x21, x17, 2
-    .word 0x002a8ab3  # add x21, x21, x2
+    .word 0x00259793  # slli x15, x11, 2
+    .word 0x002787b3  # add x15, x15, x2
     .word 0x06000313  # addi x6, x0, 96
     .word 0x00230333  # add x6, x6, x2
     .word 0x02000393  # addi x7, x0, 32
@@ -70,86 +53,66 @@ p256_subtract:
     .word 0x00430313  # addi x6, x6, 4
     .word 0xfedff06f  # jal x0, -20
     .word 0x00000513  # addi x10, x0, 0
-    .word 0x00000593  # addi x11, x0, 0
-    .word 0x00259913  # slli x18, x11, 2
-    .word 0x00290933  # add x18, x18, x2
-    .word 0x00092783  # lw x15, 0(x18)
-    .word 0x02092603  # lw x12, 32(x18)
-    .word 0x40c786b3  # sub x13, x15, x12
+    .word 0xfff00593  # addi x11, x0, -1
+    .word 0x00158593  # addi x11, x11, 1
+    .word 0x00259793  # slli x15, x11, 2
+    .word 0x002787b3  # add x15, x15, x2
+    .word 0x0007a703  # lw x14, 0(x15)
+    .word 0x0207a603  # lw x12, 32(x15)
+    .word 0x40c706b3  # sub x13, x14, x12
     .word 0x40a682b3  # sub x5, x13, x10
-    .word 0x06592023  # sw x5, 96(x18)
-    .word 0x00c7b2b3  # sltu x5, x15, x12
+    .word 0x0657a023  # sw x5, 96(x15)
+    .word 0x00c732b3  # sltu x5, x14, x12
     .word 0x00a6b333  # sltu x6, x13, x10
     .word 0x00628533  # add x10, x5, x6
-    .word 0x00158593  # addi x11, x11, 1
-    .word 0x00259913  # slli x18, x11, 2
-    .word 0x00290933  # add x18, x18, x2
-    .word 0x0085b293  # sltiu x5, x11, 8
+    .word 0xff958293  # addi x5, x11, -7
     .word 0xfc0298e3  # bne x5, x0, -48
-    .word 0xfff58593  # addi x11, x11, -1
-    .word 0x00259913  # slli x18, x11, 2
-    .word 0x00290933  # add x18, x18, x2
-    .word 0x00050793  # addi x15, x10, 0
-    .word 0x00000713  # addi x14, x0, 0
-    .word 0x00271993  # slli x19, x14, 2
-    .word 0x002989b3  # add x19, x19, x2
-    .word 0x0609a603  # lw x12, 96(x19)
-    .word 0x40f602b3  # sub x5, x12, x15
-    .word 0x0659a023  # sw x5, 96(x19)
-    .word 0x00f637b3  # sltu x15, x12, x15
-    .word 0x00170713  # addi x14, x14, 1
-    .word 0x00271993  # slli x19, x14, 2
-    .word 0x002989b3  # add x19, x19, x2
-    .word 0x00373293  # sltiu x5, x14, 3
+    .word 0x00050713  # addi x14, x10, 0
+    .word 0xfff00593  # addi x11, x0, -1
+    .word 0x00158593  # addi x11, x11, 1
+    .word 0x00259793  # slli x15, x11, 2
+    .word 0x002787b3  # add x15, x15, x2
+    .word 0x0607a603  # lw x12, 96(x15)
+    .word 0x40e602b3  # sub x5, x12, x14
+    .word 0x0657a023  # sw x5, 96(x15)
+    .word 0x00e63733  # sltu x14, x12, x14
+    .word 0xffe58293  # addi x5, x11, -2
     .word 0xfe0290e3  # bne x5, x0, -32
-    .word 0xfff70713  # addi x14, x14, -1
-    .word 0x00271993  # slli x19, x14, 2
-    .word 0x002989b3  # add x19, x19, x2
-    .word 0x40f507b3  # sub x15, x10, x15
-    .word 0x00300813  # addi x16, x0, 3
-    .word 0x00281a13  # slli x20, x16, 2
-    .word 0x002a0a33  # add x20, x20, x2
-    .word 0x060a2283  # lw x5, 96(x20)
-    .word 0x00f282b3  # add x5, x5, x15
-    .word 0x065a2023  # sw x5, 96(x20)
-    .word 0x060a2283  # lw x5, 96(x20)
-    .word 0x00f2b7b3  # sltu x15, x5, x15
-    .word 0x00180813  # addi x16, x16, 1
-    .word 0x00281a13  # slli x20, x16, 2
-    .word 0x002a0a33  # add x20, x20, x2
-    .word 0x00683293  # sltiu x5, x16, 6
+    .word 0x40e50733  # sub x14, x10, x14
+    .word 0x00200593  # addi x11, x0, 2
+    .word 0x00158593  # addi x11, x11, 1
+    .word 0x00259793  # slli x15, x11, 2
+    .word 0x002787b3  # add x15, x15, x2
+    .word 0x0607a283  # lw x5, 96(x15)
+    .word 0x00e282b3  # add x5, x5, x14
+    .word 0x0657a023  # sw x5, 96(x15)
+    .word 0x0607a283  # lw x5, 96(x15)
+    .word 0x00e2b733  # sltu x14, x5, x14
+    .word 0xffb58293  # addi x5, x11, -5
     .word 0xfc029ee3  # bne x5, x0, -36
-    .word 0xfff80813  # addi x16, x16, -1
-    .word 0x00281a13  # slli x20, x16, 2
-    .word 0x002a0a33  # add x20, x20, x2
-    .word 0x00a787b3  # add x15, x15, x10
+    .word 0x00a70733  # add x14, x14, x10
     .word 0x07812283  # lw x5, 120(x2)
-    .word 0x00f282b3  # add x5, x5, x15
+    .word 0x00e282b3  # add x5, x5, x14
     .word 0x06512c23  # sw x5, 120(x2)
     .word 0x07812283  # lw x5, 120(x2)
-    .word 0x00f2b7b3  # sltu x15, x5, x15
+    .word 0x00e2b733  # sltu x14, x5, x14
     .word 0x07c12283  # lw x5, 124(x2)
-    .word 0x00f282b3  # add x5, x5, x15
+    .word 0x00e282b3  # add x5, x5, x14
     .word 0x40a282b3  # sub x5, x5, x10
     .word 0x06512e23  # sw x5, 124(x2)
-    .word 0x00000893  # addi x17, x0, 0
-    .word 0x00289a93  # slli x21, x17, 2
-    .word 0x002a8ab3  # add x21, x21, x2
-    .word 0x060aa283  # lw x5, 96(x21)
-    .word 0x045aa023  # sw x5, 64(x21)
-    .word 0x00188893  # addi x17, x17, 1
-    .word 0x00289a93  # slli x21, x17, 2
-    .word 0x002a8ab3  # add x21, x21, x2
-    .word 0x0088b293  # sltiu x5, x17, 8
+    .word 0xfff00593  # addi x11, x0, -1
+    .word 0x00158593  # addi x11, x11, 1
+    .word 0x00259793  # slli x15, x11, 2
+    .word 0x002787b3  # add x15, x15, x2
+    .word 0x0607a283  # lw x5, 96(x15)
+    .word 0x0457a023  # sw x5, 64(x15)
+    .word 0xff958293  # addi x5, x11, -7
     .word 0xfe0294e3  # bne x5, x0, -24
-    .word 0xfff88893  # addi x17, x17, -1
-    .word 0x00289a93  # slli x21, x17, 2
-    .word 0x002a8ab3  # add x21, x21, x2
     # the result
     .word 0x00000513  # addi x10, x0, 0
     # parameter 2: the array, back
     .word 0x04010293  # addi x5, x2, 64
-    .word 0x0ac12303  # lw x6, 172(x2)
+    .word 0x09c12303  # lw x6, 156(x2)
     .word 0x02028393  # addi x7, x5, 32
     .word 0x0002ae03  # lw x28, 0(x5)
     .word 0x01c32023  # sw x28, 0(x6)
@@ -159,16 +122,8 @@ p256_subtract:
     # above the frame
     .word 0x09010293  # addi x5, x2, 144
     # the caller's registers
-    .word 0x0002a903  # lw x18, 0(x5)
-    .cfi_restore 18
-    .word 0x0042a983  # lw x19, 4(x5)
-    .cfi_restore 19
-    .word 0x0082aa03  # lw x20, 8(x5)
-    .cfi_restore 20
-    .word 0x00c2aa83  # lw x21, 12(x5)
-    .cfi_restore 21
     # the caller's x2
-    .word 0x02028293  # addi x5, x5, 32
+    .word 0x01028293  # addi x5, x5, 16
     .cfi_def_cfa 5, 0
     # all the room, wiped upward
     .word 0x00012023  # sw x0, 0(x2)

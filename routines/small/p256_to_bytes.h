@@ -6,7 +6,7 @@
 #define FACT_p256_to_bytes_H
 #include <stdbool.h>
 #include <stdint.h>
-#define p256_to_bytes_STACK_BYTES 272
+#define p256_to_bytes_STACK_BYTES 240
 #ifdef __cplusplus
 extern "C" {
 #endif

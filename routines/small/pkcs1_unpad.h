@@ -6,7 +6,7 @@
 #define FACT_pkcs1_unpad_H
 #include <stdbool.h>
 #include <stdint.h>
-#define pkcs1_unpad_STACK_BYTES 304
+#define pkcs1_unpad_STACK_BYTES 272
 #ifdef __cplusplus
 extern "C" {
 #endif

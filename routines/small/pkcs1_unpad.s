@@ -1,4 +1,4 @@
-# pkcs1_unpad: made by factc 1.0.0 function; 256 words, 304 bytes of stack, profile 1
+# pkcs1_unpad: made by factc 1.0.0 function; 234 words, 272 bytes of stack, profile 1
     .option push
     .option norvc
     .option norelax
@@ -10,37 +10,25 @@
 pkcs1_unpad:
     .cfi_startproc
     # room above the frame
-    .word 0xfc010113  # addi x2, x2, -64
-    .cfi_def_cfa_offset 64
+    .word 0xfe010113  # addi x2, x2, -32
+    .cfi_def_cfa_offset 32
     # the caller's registers
-    .word 0x00812023  # sw x8, 0(x2)
-    .cfi_offset 8, -64
-    .word 0x01212223  # sw x18, 4(x2)
-    .cfi_offset 18, -60
-    .word 0x01312423  # sw x19, 8(x2)
-    .cfi_offset 19, -56
-    .word 0x01412623  # sw x20, 12(x2)
-    .cfi_offset 20, -52
-    .word 0x01512823  # sw x21, 16(x2)
-    .cfi_offset 21, -48
-    .word 0x01612a23  # sw x22, 20(x2)
-    .cfi_offset 22, -44
-    .word 0x01712c23  # sw x23, 24(x2)
-    .cfi_offset 23, -40
-    .word 0x01812e23  # sw x24, 28(x2)
-    .cfi_offset 24, -36
-    .word 0x03912023  # sw x25, 32(x2)
-    .cfi_offset 25, -32
-    .word 0x03a12223  # sw x26, 36(x2)
-    .cfi_offset 26, -28
-    .word 0x03b12423  # sw x27, 40(x2)
-    .cfi_offset 27, -24
+    .word 0x01212023  # sw x18, 0(x2)
+    .cfi_offset 18, -32
+    .word 0x01312223  # sw x19, 4(x2)
+    .cfi_offset 19, -28
+    .word 0x01412423  # sw x20, 8(x2)
+    .cfi_offset 20, -24
+    .word 0x01512623  # sw x21, 12(x2)
+    .cfi_offset 21, -20
+    .word 0x01612823  # sw x22, 16(x2)
+    .cfi_offset 22, -16
     # arguments that are needed behind the body
-    .word 0x02a12c23  # sw x10, 56(x2)
-    .word 0x02b12e23  # sw x11, 60(x2)
+    .word 0x00a12c23  # sw x10, 24(x2)
+    .word 0x00b12e23  # sw x11, 28(x2)
     # the frame's base
     .word 0xf1010113  # addi x2, x2, -240
-    .cfi_def_cfa 2, 304
+    .cfi_def_cfa 2, 272
     # parameter 0: an array
     .word 0x00050293  # addi x5, x10, 0
     .word 0x00010313  # addi x6, x2, 0
@@ -62,41 +50,35 @@ pkcs1_unpad:
     # the body
     .word 0x00000513  # addi x10, x0, 0
     .word 0x00000713  # addi x14, x0, 0
-    .word 0x00000793  # addi x15, x0, 0
-    .word 0x00000893  # addi x17, x0, 0
-    .word 0x00000993  # addi x19, x0, 0
-    .word 0x00000b93  # addi x23, x0, 0
-    .word 0x00000c93  # addi x25, x0, 0
-    .word 0x00289d13  # slli x26, x17, 2
-    .word 0x002d0d33  # add x26, x26, x2
-    .word 0x002b9413  # slli x8, x23, 2
-    .word 0x00240433  # add x8, x8, x2
+    .word 0x00000813  # addi x16, x0, 0
     .word 0x00000913  # addi x18, x0, 0
-    .word 0x00100c13  # addi x24, x0, 1
-    .word 0x00200513  # addi x10, x0, 2
+    .word 0x00281b13  # slli x22, x16, 2
+    .word 0x002b0b33  # add x22, x22, x2
+    .word 0x00000893  # addi x17, x0, 0
+    .word 0x00100a93  # addi x21, x0, 1
+    .word 0x00100513  # addi x10, x0, 1
+    .word 0x00150513  # addi x10, x10, 1
     .word 0x00250333  # add x6, x10, x2
     .word 0x00034303  # lbu x6, 0(x6)
     .word 0x00603333  # sltu x6, x0, x6
-    .word 0x006c7c33  # and x24, x24, x6
-    .word 0x01890933  # add x18, x18, x24
-    .word 0x00150513  # addi x10, x10, 1
-    .word 0x04053293  # sltiu x5, x10, 64
+    .word 0x006afab3  # and x21, x21, x6
+    .word 0x015888b3  # add x17, x17, x21
+    .word 0xfc150293  # addi x5, x10, -63
     .word 0xfe0292e3  # bne x5, x0, -28
-    .word 0xfff50513  # addi x10, x10, -1
-    .word 0x00390593  # addi x11, x18, 3
+    .word 0x00388593  # addi x11, x17, 3
     .word 0x00014283  # lbu x5, 0(x2)
     .word 0x00114303  # lbu x6, 1(x2)
     .word 0x00234313  # xori x6, x6, 2
     .word 0x0062e2b3  # or x5, x5, x6
     .word 0x0012b613  # sltiu x12, x5, 1
-    .word 0x001c3313  # sltiu x6, x24, 1
+    .word 0x001ab313  # sltiu x6, x21, 1
     .word 0x006672b3  # and x5, x12, x6
-    .word 0x00893313  # sltiu x6, x18, 8
+    .word 0x0088b313  # sltiu x6, x17, 8
     .word 0x00133313  # sltiu x6, x6, 1
     .word 0x0062f633  # and x12, x5, x6
     .word 0x0405b313  # sltiu x6, x11, 64
     .word 0x006672b3  # and x5, x12, x6
-    .word 0x40500933  # sub x18, x0, x5
+    .word 0x405008b3  # sub x17, x0, x5
     .word 0xff558693  # addi x13, x11, -11
     .word 0x06012c23  # sw x0, 120(x2)
     .word 0x06012e23  # sw x0, 124(x2)
@@ -120,117 +102,113 @@ pkcs1_unpad:
     .word 0x0c012223  # sw x0, 196(x2)
     .word 0x0c012423  # sw x0, 200(x2)
     .word 0x0c012623  # sw x0, 204(x2)
-    .word 0x00000713  # addi x14, x0, 0
+    .word 0xfff00713  # addi x14, x0, -1
+    .word 0x00170713  # addi x14, x14, 1
     .word 0x00271293  # slli x5, x14, 2
-    .word 0x00b28a93  # addi x21, x5, 11
-    .word 0x002a8db3  # add x27, x21, x2
-    .word 0x000dc283  # lbu x5, 0(x27)
-    .word 0x001dc303  # lbu x6, 1(x27)
+    .word 0x00b28813  # addi x16, x5, 11
+    .word 0x00281b13  # slli x22, x16, 2
+    .word 0x002b0b33  # add x22, x22, x2
+    .word 0x002802b3  # add x5, x16, x2
+    .word 0x0002c283  # lbu x5, 0(x5)
+    .word 0x00280333  # add x6, x16, x2
+    .word 0x00134303  # lbu x6, 1(x6)
     .word 0x00831313  # slli x6, x6, 8
-    .word 0x0062ec33  # or x24, x5, x6
-    .word 0x002dc303  # lbu x6, 2(x27)
+    .word 0x0062e2b3  # or x5, x5, x6
+    .word 0x00280333  # add x6, x16, x2
+    .word 0x00234303  # lbu x6, 2(x6)
     .word 0x01031313  # slli x6, x6, 16
-    .word 0x006c62b3  # or x5, x24, x6
-    .word 0x003dc303  # lbu x6, 3(x27)
+    .word 0x0062e2b3  # or x5, x5, x6
+    .word 0x00280333  # add x6, x16, x2
+    .word 0x00334303  # lbu x6, 3(x6)
     .word 0x01831313  # slli x6, x6, 24
-    .word 0x0062ec33  # or x24, x5, x6
-    .word 0x012c7333  # and x6, x24, x18
+    .word 0x0062eab3  # or x21, x5, x6
+    .word 0x011af333  # and x6, x21, x17
     .word 0x00271293  # slli x5, x14, 2
     .word 0x002282b3  # add x5, x5, x2
     .word 0x0662ac23  # sw x6, 120(x5)
-    .word 0x00170713  # addi x14, x14, 1
-    .word 0x00d73293  # sltiu x5, x14, 13
-    .word 0xfa029ae3  # bne x5, x0, -76
-    .word 0xfff70713  # addi x14, x14, -1
+    .word 0xff470293  # addi x5, x14, -12
+    .word 0xfa0290e3  # bne x5, x0, -96
     .word 0x03f14283  # lbu x5, 63(x2)
-    .word 0x0122f2b3  # and x5, x5, x18
+    .word 0x0112f2b3  # and x5, x5, x17
     .word 0x0a512623  # sw x5, 172(x2)
-    .word 0x00000793  # addi x15, x0, 0
+    .word 0xfff00713  # addi x14, x0, -1
+    .word 0x00170713  # addi x14, x14, 1
     .word 0x00800293  # addi x5, x0, 8
-    .word 0x00f2dab3  # srl x21, x5, x15
-    .word 0x002a8db3  # add x27, x21, x2
+    .word 0x00e2d9b3  # srl x19, x5, x14
     .word 0x00500313  # addi x6, x0, 5
-    .word 0x40f30333  # sub x6, x6, x15
+    .word 0x40e30333  # sub x6, x6, x14
     .word 0x0066d2b3  # srl x5, x13, x6
     .word 0x0012f293  # andi x5, x5, 1
-    .word 0x40500833  # sub x16, x0, x5
-    .word 0x00000893  # addi x17, x0, 0
-    .word 0x00289d13  # slli x26, x17, 2
-    .word 0x002d0d33  # add x26, x26, x2
-    .word 0x078d2c03  # lw x24, 120(x26)
-    .word 0x015882b3  # add x5, x17, x21
+    .word 0x405007b3  # sub x15, x0, x5
+    .word 0xfff00813  # addi x16, x0, -1
+    .word 0x00180813  # addi x16, x16, 1
+    .word 0x00281b13  # slli x22, x16, 2
+    .word 0x002b0b33  # add x22, x22, x2
+    .word 0x078b2a83  # lw x21, 120(x22)
+    .word 0x013802b3  # add x5, x16, x19
     .word 0x00229293  # slli x5, x5, 2
     .word 0x002282b3  # add x5, x5, x2
     .word 0x0782a283  # lw x5, 120(x5)
-    .word 0x0182c2b3  # xor x5, x5, x24
-    .word 0x0102f933  # and x18, x5, x16
-    .word 0x012c42b3  # xor x5, x24, x18
-    .word 0x065d2c23  # sw x5, 120(x26)
-    .word 0x00188893  # addi x17, x17, 1
-    .word 0x00289d13  # slli x26, x17, 2
-    .word 0x002d0d33  # add x26, x26, x2
-    .word 0x00e8b293  # sltiu x5, x17, 14
+    .word 0x0152c2b3  # xor x5, x5, x21
+    .word 0x00f2f8b3  # and x17, x5, x15
+    .word 0x011ac2b3  # xor x5, x21, x17
+    .word 0x065b2c23  # sw x5, 120(x22)
+    .word 0xff380293  # addi x5, x16, -13
     .word 0xfc0296e3  # bne x5, x0, -52
-    .word 0xfff88893  # addi x17, x17, -1
-    .word 0x00289d13  # slli x26, x17, 2
-    .word 0x002d0d33  # add x26, x26, x2
-    .word 0x00178793  # addi x15, x15, 1
-    .word 0x0047b293  # sltiu x5, x15, 4
-    .word 0xf80294e3  # bne x5, x0, -120
-    .word 0xfff78793  # addi x15, x15, -1
-    .word 0x00000993  # addi x19, x0, 0
-    .word 0x0019fa13  # andi x20, x19, 1
+    .word 0xffd70293  # addi x5, x14, -3
+    .word 0xfa0290e3  # bne x5, x0, -96
+    .word 0xfff00913  # addi x18, x0, -1
+    .word 0x00190913  # addi x18, x18, 1
+    .word 0x00197813  # andi x16, x18, 1
+    .word 0x00281b13  # slli x22, x16, 2
+    .word 0x002b0b33  # add x22, x22, x2
     .word 0x01000293  # addi x5, x0, 16
-    .word 0x0142dab3  # srl x21, x5, x20
-    .word 0x002a8db3  # add x27, x21, x2
+    .word 0x0102d9b3  # srl x19, x5, x16
     .word 0x02000293  # addi x5, x0, 32
-    .word 0x41528b33  # sub x22, x5, x21
+    .word 0x41328a33  # sub x20, x5, x19
     .word 0x00100313  # addi x6, x0, 1
-    .word 0x41430333  # sub x6, x6, x20
+    .word 0x41030333  # sub x6, x6, x16
     .word 0x0066d2b3  # srl x5, x13, x6
     .word 0x0012f293  # andi x5, x5, 1
-    .word 0x40500833  # sub x16, x0, x5
-    .word 0x00000b93  # addi x23, x0, 0
-    .word 0x002b9413  # slli x8, x23, 2
-    .word 0x00240433  # add x8, x8, x2
-    .word 0x07842c03  # lw x24, 120(x8)
-    .word 0x015c52b3  # srl x5, x24, x21
-    .word 0x07c42303  # lw x6, 124(x8)
-    .word 0x01631333  # sll x6, x6, x22
+    .word 0x405007b3  # sub x15, x0, x5
+    .word 0xfff00813  # addi x16, x0, -1
+    .word 0x00180813  # addi x16, x16, 1
+    .word 0x00281b13  # slli x22, x16, 2
+    .word 0x002b0b33  # add x22, x22, x2
+    .word 0x078b2a83  # lw x21, 120(x22)
+    .word 0x013ad2b3  # srl x5, x21, x19
+    .word 0x07cb2303  # lw x6, 124(x22)
+    .word 0x01431333  # sll x6, x6, x20
     .word 0x0062c2b3  # xor x5, x5, x6
-    .word 0x0182c2b3  # xor x5, x5, x24
-    .word 0x0102f933  # and x18, x5, x16
-    .word 0x012c42b3  # xor x5, x24, x18
-    .word 0x06542c23  # sw x5, 120(x8)
-    .word 0x001b8b93  # addi x23, x23, 1
-    .word 0x002b9413  # slli x8, x23, 2
-    .word 0x00240433  # add x8, x8, x2
-    .word 0x00ebb293  # sltiu x5, x23, 14
+    .word 0x0152c2b3  # xor x5, x5, x21
+    .word 0x00f2f8b3  # and x17, x5, x15
+    .word 0x011ac2b3  # xor x5, x21, x17
+    .word 0x065b2c23  # sw x5, 120(x22)
+    .word 0xff380293  # addi x5, x16, -13
     .word 0xfc0296e3  # bne x5, x0, -52
-    .word 0xfffb8b93  # addi x23, x23, -1
-    .word 0x002b9413  # slli x8, x23, 2
-    .word 0x00240433  # add x8, x8, x2
-    .word 0x00198993  # addi x19, x19, 1
-    .word 0x0029b293  # sltiu x5, x19, 2
-    .word 0xf6029ee3  # bne x5, x0, -132
-    .word 0xfff98993  # addi x19, x19, -1
-    .word 0x00000c93  # addi x25, x0, 0
-    .word 0x002c9a93  # slli x21, x25, 2
-    .word 0x002a8db3  # add x27, x21, x2
-    .word 0x002c9c13  # slli x24, x25, 2
-    .word 0x002c0c33  # add x24, x24, x2
-    .word 0x078c2c03  # lw x24, 120(x24)
-    .word 0x058d8023  # sb x24, 64(x27)
-    .word 0x008c5293  # srli x5, x24, 8
-    .word 0x045d80a3  # sb x5, 65(x27)
-    .word 0x010c5293  # srli x5, x24, 16
-    .word 0x045d8123  # sb x5, 66(x27)
-    .word 0x018c5293  # srli x5, x24, 24
-    .word 0x045d81a3  # sb x5, 67(x27)
-    .word 0x001c8c93  # addi x25, x25, 1
-    .word 0x00dcb293  # sltiu x5, x25, 13
-    .word 0xfc0294e3  # bne x5, x0, -56
-    .word 0xfffc8c93  # addi x25, x25, -1
+    .word 0xfff90293  # addi x5, x18, -1
+    .word 0xf80296e3  # bne x5, x0, -116
+    .word 0xfff00713  # addi x14, x0, -1
+    .word 0x00170713  # addi x14, x14, 1
+    .word 0x00271813  # slli x16, x14, 2
+    .word 0x00281b13  # slli x22, x16, 2
+    .word 0x002b0b33  # add x22, x22, x2
+    .word 0x00271a93  # slli x21, x14, 2
+    .word 0x002a8ab3  # add x21, x21, x2
+    .word 0x078aaa83  # lw x21, 120(x21)
+    .word 0x002802b3  # add x5, x16, x2
+    .word 0x05528023  # sb x21, 64(x5)
+    .word 0x008ad313  # srli x6, x21, 8
+    .word 0x002802b3  # add x5, x16, x2
+    .word 0x046280a3  # sb x6, 65(x5)
+    .word 0x010ad313  # srli x6, x21, 16
+    .word 0x002802b3  # add x5, x16, x2
+    .word 0x04628123  # sb x6, 66(x5)
+    .word 0x018ad313  # srli x6, x21, 24
+    .word 0x002802b3  # add x5, x16, x2
+    .word 0x046281a3  # sb x6, 67(x5)
+    .word 0xff470293  # addi x5, x14, -12
+    .word 0xfa029ae3  # bne x5, x0, -76
     .word 0x0ac12283  # lw x5, 172(x2)
     .word 0x06510a23  # sb x5, 116(x2)
     .word 0x04000313  # addi x6, x0, 64
@@ -246,7 +224,7 @@ pkcs1_unpad:
     .word 0x0d012503  # lw x10, 208(x2)
     # parameter 1: the array, back
     .word 0x04010293  # addi x5, x2, 64
-    .word 0x12c12303  # lw x6, 300(x2)
+    .word 0x10c12303  # lw x6, 268(x2)
     .word 0x03528393  # addi x7, x5, 53
     .word 0x0002ce03  # lbu x28, 0(x5)
     .word 0x01c30023  # sb x28, 0(x6)
@@ -256,30 +234,18 @@ pkcs1_unpad:
     # above the frame
     .word 0x0f010293  # addi x5, x2, 240
     # the caller's registers
-    .word 0x0002a403  # lw x8, 0(x5)
-    .cfi_restore 8
-    .word 0x0042a903  # lw x18, 4(x5)
+    .word 0x0002a903  # lw x18, 0(x5)
     .cfi_restore 18
-    .word 0x0082a983  # lw x19, 8(x5)
+    .word 0x0042a983  # lw x19, 4(x5)
     .cfi_restore 19
-    .word 0x00c2aa03  # lw x20, 12(x5)
+    .word 0x0082aa03  # lw x20, 8(x5)
     .cfi_restore 20
-    .word 0x0102aa83  # lw x21, 16(x5)
+    .word 0x00c2aa83  # lw x21, 12(x5)
     .cfi_restore 21
-    .word 0x0142ab03  # lw x22, 20(x5)
+    .word 0x0102ab03  # lw x22, 16(x5)
     .cfi_restore 22
-    .word 0x0182ab83  # lw x23, 24(x5)
-    .cfi_restore 23
-    .word 0x01c2ac03  # lw x24, 28(x5)
-    .cfi_restore 24
-    .word 0x0202ac83  # lw x25, 32(x5)
-    .cfi_restore 25
-    .word 0x0242ad03  # lw x26, 36(x5)
-    .cfi_restore 26
-    .word 0x0282ad83  # lw x27, 40(x5)
-    .cfi_restore 27
     # the caller's x2
-    .word 0x04028293  # addi x5, x5, 64
+    .word 0x02028293  # addi x5, x5, 32
     .cfi_def_cfa 5, 0
     # all the room, wiped upward
     .word 0x00012023  # sw x0, 0(x2)

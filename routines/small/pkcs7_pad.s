@@ -1,4 +1,4 @@
-# pkcs7_pad: made by factc 1.0.0 function; 59 words, 48 bytes of stack, profile 1
+# pkcs7_pad: made by factc 1.0.0 function; 58 words, 48 bytes of stack, profile 1
     .option push
     .option norvc
     .option norelax
@@ -37,14 +37,13 @@ pkcs7_pad:
     .word 0x01000293  # addi x5, x0, 16
     .word 0x40b282b3  # sub x5, x5, x11
     .word 0x0ff2f613  # andi x12, x5, 255
-    .word 0x00000693  # addi x13, x0, 0
+    .word 0xfff00693  # addi x13, x0, -1
+    .word 0x00168693  # addi x13, x13, 1
     .word 0x00b6e663  # bltu x13, x11, 12
     .word 0x002682b3  # add x5, x13, x2
     .word 0x00c28223  # sb x12, 4(x5)
-    .word 0x00168693  # addi x13, x13, 1
-    .word 0x0106b293  # sltiu x5, x13, 16
+    .word 0xff168293  # addi x5, x13, -15
     .word 0xfe0296e3  # bne x5, x0, -20
-    .word 0xfff68693  # addi x13, x13, -1
     # the result
     .word 0x00000513  # addi x10, x0, 0
     # parameter 1: the array, back

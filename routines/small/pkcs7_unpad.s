@@ -1,4 +1,4 @@
-# pkcs7_unpad: made by factc 1.0.0 function; 63 words, 32 bytes of stack, profile 1
+# pkcs7_unpad: made by factc 1.0.0 function; 62 words, 32 bytes of stack, profile 1
     .option push
     .option norvc
     .option norelax
@@ -34,7 +34,8 @@ pkcs7_unpad:
     .word 0x0062e5b3  # or x11, x5, x6
     .word 0x00f00293  # addi x5, x0, 15
     .word 0x40a28633  # sub x12, x5, x10
-    .word 0x00000693  # addi x13, x0, 0
+    .word 0xfff00693  # addi x13, x0, -1
+    .word 0x00168693  # addi x13, x13, 1
     .word 0x00268333  # add x6, x13, x2
     .word 0x00034303  # lbu x6, 0(x6)
     .word 0x00a34333  # xor x6, x6, x10
@@ -42,10 +43,8 @@ pkcs7_unpad:
     .word 0x00c37333  # and x6, x6, x12
     .word 0x0065e5b3  # or x11, x11, x6
     .word 0xfff60613  # addi x12, x12, -1
-    .word 0x00168693  # addi x13, x13, 1
-    .word 0x0106b293  # sltiu x5, x13, 16
+    .word 0xff168293  # addi x5, x13, -15
     .word 0xfc029ee3  # bne x5, x0, -36
-    .word 0xfff68693  # addi x13, x13, -1
     .word 0x1005b293  # sltiu x5, x11, 256
     .word 0x01000313  # addi x6, x0, 16
     .word 0x40a30333  # sub x6, x6, x10

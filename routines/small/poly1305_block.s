@@ -1,4 +1,4 @@
-# poly1305_block: made by factc 1.0.0 function; 525 words, 224 bytes of stack, profile 1
+# poly1305_block: made by factc 1.0.0 function; 524 words, 224 bytes of stack, profile 1
     .option push
     .option norvc
     .option norelax
@@ -137,9 +137,10 @@ poly1305_block:
     .word 0x0062e2b3  # or x5, x5, x6
     .word 0x06512423  # sw x5, 104(x2)
     .word 0x01000313  # addi x6, x0, 16
-    .word 0x04657863  # bgeu x10, x6, 80
+    .word 0x04657663  # bgeu x10, x6, 76
     .word 0x00100d13  # addi x26, x0, 1
-    .word 0x00000793  # addi x15, x0, 0
+    .word 0xfff00793  # addi x15, x0, -1
+    .word 0x00178793  # addi x15, x15, 1
     .word 0x00357313  # andi x6, x10, 3
     .word 0x0267f063  # bgeu x15, x6, 32
     .word 0x008d1293  # slli x5, x26, 8
@@ -149,10 +150,8 @@ poly1305_block:
     .word 0x00230333  # add x6, x6, x2
     .word 0x02034303  # lbu x6, 32(x6)
     .word 0x0062ed33  # or x26, x5, x6
-    .word 0x00178793  # addi x15, x15, 1
-    .word 0x0037b293  # sltiu x5, x15, 3
+    .word 0xffe78293  # addi x5, x15, -2
     .word 0xfc029ae3  # bne x5, x0, -44
-    .word 0xfff78793  # addi x15, x15, -1
     .word 0x00255293  # srli x5, x10, 2
     .word 0x00229293  # slli x5, x5, 2
     .word 0x002282b3  # add x5, x5, x2
@@ -269,8 +268,8 @@ poly1305_block:
     .word 0x008d1313  # slli x6, x26, 8
     .word 0x006b6b33  # or x22, x22, x6
     .word 0x018d5b93  # srli x23, x26, 24
-    .word 0x01053513  # sltiu x10, x10, 16
-    .word 0x00153513  # sltiu x10, x10, 1
+    .word 0x01053793  # sltiu x15, x10, 16
+    .word 0x0017b793  # sltiu x15, x15, 1
     .word 0x05c12d03  # lw x26, 92(x2)
     .word 0x01ad3db3  # sltu x27, x26, x26
     .word 0x013d0d33  # add x26, x26, x19
@@ -303,7 +302,7 @@ poly1305_block:
     .word 0x000d0b13  # addi x22, x26, 0
     .word 0x000d8d13  # addi x26, x27, 0
     .word 0x01ab82b3  # add x5, x23, x26
-    .word 0x00a28bb3  # add x23, x5, x10
+    .word 0x00f28bb3  # add x23, x5, x15
     .word 0x00098c13  # addi x24, x19, 0
     .word 0x000a0c93  # addi x25, x20, 0
     .word 0x09512023  # sw x21, 128(x2)

@@ -6,7 +6,7 @@
 #define FACT_poly1305_blocks_H
 #include <stdbool.h>
 #include <stdint.h>
-#define poly1305_blocks_STACK_BYTES 560
+#define poly1305_blocks_STACK_BYTES 544
 #ifdef __cplusplus
 extern "C" {
 #endif

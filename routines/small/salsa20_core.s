@@ -1,4 +1,4 @@
-# salsa20_core: made by factc 1.0.0 function; 551 words, 208 bytes of stack, profile 1
+# salsa20_core: made by factc 1.0.0 function; 406 words, 208 bytes of stack, profile 1
     .option push
     .option norvc
     .option norelax
@@ -53,166 +53,22 @@ salsa20_core:
     .word 0xfe7298e3  # bne x5, x7, -16
     # the body
     .word 0x00000493  # addi x9, x0, 0
-    .word 0x00014283  # lbu x5, 0(x2)
-    .word 0x00114303  # lbu x6, 1(x2)
-    .word 0x00831313  # slli x6, x6, 8
-    .word 0x0062e433  # or x8, x5, x6
-    .word 0x00214303  # lbu x6, 2(x2)
-    .word 0x01031313  # slli x6, x6, 16
-    .word 0x006462b3  # or x5, x8, x6
-    .word 0x00314303  # lbu x6, 3(x2)
-    .word 0x01831313  # slli x6, x6, 24
-    .word 0x0062e533  # or x10, x5, x6
-    .word 0x00414283  # lbu x5, 4(x2)
-    .word 0x00514303  # lbu x6, 5(x2)
-    .word 0x00831313  # slli x6, x6, 8
-    .word 0x0062e433  # or x8, x5, x6
-    .word 0x00614303  # lbu x6, 6(x2)
-    .word 0x01031313  # slli x6, x6, 16
-    .word 0x006462b3  # or x5, x8, x6
-    .word 0x00714303  # lbu x6, 7(x2)
-    .word 0x01831313  # slli x6, x6, 24
-    .word 0x0062e5b3  # or x11, x5, x6
-    .word 0x00814283  # lbu x5, 8(x2)
-    .word 0x00914303  # lbu x6, 9(x2)
-    .word 0x00831313  # slli x6, x6, 8
-    .word 0x0062e433  # or x8, x5, x6
-    .word 0x00a14303  # lbu x6, 10(x2)
-    .word 0x01031313  # slli x6, x6, 16
-    .word 0x006462b3  # or x5, x8, x6
-    .word 0x00b14303  # lbu x6, 11(x2)
-    .word 0x01831313  # slli x6, x6, 24
-    .word 0x0062e633  # or x12, x5, x6
-    .word 0x00c14283  # lbu x5, 12(x2)
-    .word 0x00d14303  # lbu x6, 13(x2)
-    .word 0x00831313  # slli x6, x6, 8
-    .word 0x0062e433  # or x8, x5, x6
-    .word 0x00e14303  # lbu x6, 14(x2)
-    .word 0x01031313  # slli x6, x6, 16
-    .word 0x006462b3  # or x5, x8, x6
-    .word 0x00f14303  # lbu x6, 15(x2)
-    .word 0x01831313  # slli x6, x6, 24
-    .word 0x0062e6b3  # or x13, x5, x6
-    .word 0x01014283  # lbu x5, 16(x2)
-    .word 0x01114303  # lbu x6, 17(x2)
-    .word 0x00831313  # slli x6, x6, 8
-    .word 0x0062e433  # or x8, x5, x6
-    .word 0x01214303  # lbu x6, 18(x2)
-    .word 0x01031313  # slli x6, x6, 16
-    .word 0x006462b3  # or x5, x8, x6
-    .word 0x01314303  # lbu x6, 19(x2)
-    .word 0x01831313  # slli x6, x6, 24
-    .word 0x0062e733  # or x14, x5, x6
-    .word 0x01414283  # lbu x5, 20(x2)
-    .word 0x01514303  # lbu x6, 21(x2)
-    .word 0x00831313  # slli x6, x6, 8
-    .word 0x0062e433  # or x8, x5, x6
-    .word 0x01614303  # lbu x6, 22(x2)
-    .word 0x01031313  # slli x6, x6, 16
-    .word 0x006462b3  # or x5, x8, x6
-    .word 0x01714303  # lbu x6, 23(x2)
-    .word 0x01831313  # slli x6, x6, 24
-    .word 0x0062e7b3  # or x15, x5, x6
-    .word 0x01814283  # lbu x5, 24(x2)
-    .word 0x01914303  # lbu x6, 25(x2)
-    .word 0x00831313  # slli x6, x6, 8
-    .word 0x0062e433  # or x8, x5, x6
-    .word 0x01a14303  # lbu x6, 26(x2)
-    .word 0x01031313  # slli x6, x6, 16
-    .word 0x006462b3  # or x5, x8, x6
-    .word 0x01b14303  # lbu x6, 27(x2)
-    .word 0x01831313  # slli x6, x6, 24
-    .word 0x0062e833  # or x16, x5, x6
-    .word 0x01c14283  # lbu x5, 28(x2)
-    .word 0x01d14303  # lbu x6, 29(x2)
-    .word 0x00831313  # slli x6, x6, 8
-    .word 0x0062e433  # or x8, x5, x6
-    .word 0x01e14303  # lbu x6, 30(x2)
-    .word 0x01031313  # slli x6, x6, 16
-    .word 0x006462b3  # or x5, x8, x6
-    .word 0x01f14303  # lbu x6, 31(x2)
-    .word 0x01831313  # slli x6, x6, 24
-    .word 0x0062e8b3  # or x17, x5, x6
-    .word 0x02014283  # lbu x5, 32(x2)
-    .word 0x02114303  # lbu x6, 33(x2)
-    .word 0x00831313  # slli x6, x6, 8
-    .word 0x0062e433  # or x8, x5, x6
-    .word 0x02214303  # lbu x6, 34(x2)
-    .word 0x01031313  # slli x6, x6, 16
-    .word 0x006462b3  # or x5, x8, x6
-    .word 0x02314303  # lbu x6, 35(x2)
-    .word 0x01831313  # slli x6, x6, 24
-    .word 0x0062e933  # or x18, x5, x6
-    .word 0x02414283  # lbu x5, 36(x2)
-    .word 0x02514303  # lbu x6, 37(x2)
-    .word 0x00831313  # slli x6, x6, 8
-    .word 0x0062e433  # or x8, x5, x6
-    .word 0x02614303  # lbu x6, 38(x2)
-    .word 0x01031313  # slli x6, x6, 16
-    .word 0x006462b3  # or x5, x8, x6
-    .word 0x02714303  # lbu x6, 39(x2)
-    .word 0x01831313  # slli x6, x6, 24
-    .word 0x0062e9b3  # or x19, x5, x6
-    .word 0x02814283  # lbu x5, 40(x2)
-    .word 0x02914303  # lbu x6, 41(x2)
-    .word 0x00831313  # slli x6, x6, 8
-    .word 0x0062e433  # or x8, x5, x6
-    .word 0x02a14303  # lbu x6, 42(x2)
-    .word 0x01031313  # slli x6, x6, 16
-    .word 0x006462b3  # or x5, x8, x6
-    .word 0x02b14303  # lbu x6, 43(x2)
-    .word 0x01831313  # slli x6, x6, 24
-    .word 0x0062ea33  # or x20, x5, x6
-    .word 0x02c14283  # lbu x5, 44(x2)
-    .word 0x02d14303  # lbu x6, 45(x2)
-    .word 0x00831313  # slli x6, x6, 8
-    .word 0x0062e433  # or x8, x5, x6
-    .word 0x02e14303  # lbu x6, 46(x2)
-    .word 0x01031313  # slli x6, x6, 16
-    .word 0x006462b3  # or x5, x8, x6
-    .word 0x02f14303  # lbu x6, 47(x2)
-    .word 0x01831313  # slli x6, x6, 24
-    .word 0x0062eab3  # or x21, x5, x6
-    .word 0x03014283  # lbu x5, 48(x2)
-    .word 0x03114303  # lbu x6, 49(x2)
-    .word 0x00831313  # slli x6, x6, 8
-    .word 0x0062e433  # or x8, x5, x6
-    .word 0x03214303  # lbu x6, 50(x2)
-    .word 0x01031313  # slli x6, x6, 16
-    .word 0x006462b3  # or x5, x8, x6
-    .word 0x03314303  # lbu x6, 51(x2)
-    .word 0x01831313  # slli x6, x6, 24
-    .word 0x0062eb33  # or x22, x5, x6
-    .word 0x03414283  # lbu x5, 52(x2)
-    .word 0x03514303  # lbu x6, 53(x2)
-    .word 0x00831313  # slli x6, x6, 8
-    .word 0x0062e433  # or x8, x5, x6
-    .word 0x03614303  # lbu x6, 54(x2)
-    .word 0x01031313  # slli x6, x6, 16
-    .word 0x006462b3  # or x5, x8, x6
-    .word 0x03714303  # lbu x6, 55(x2)
-    .word 0x01831313  # slli x6, x6, 24
-    .word 0x0062ebb3  # or x23, x5, x6
-    .word 0x03814283  # lbu x5, 56(x2)
-    .word 0x03914303  # lbu x6, 57(x2)
-    .word 0x00831313  # slli x6, x6, 8
-    .word 0x0062e433  # or x8, x5, x6
-    .word 0x03a14303  # lbu x6, 58(x2)
-    .word 0x01031313  # slli x6, x6, 16
-    .word 0x006462b3  # or x5, x8, x6
-    .word 0x03b14303  # lbu x6, 59(x2)
-    .word 0x01831313  # slli x6, x6, 24
-    .word 0x0062ec33  # or x24, x5, x6
-    .word 0x03c14283  # lbu x5, 60(x2)
-    .word 0x03d14303  # lbu x6, 61(x2)
-    .word 0x00831313  # slli x6, x6, 8
-    .word 0x0062e433  # or x8, x5, x6
-    .word 0x03e14303  # lbu x6, 62(x2)
-    .word 0x01031313  # slli x6, x6, 16
-    .word 0x006462b3  # or x5, x8, x6
-    .word 0x03f14303  # lbu x6, 63(x2)
-    .word 0x01831313  # slli x6, x6, 24
-    .word 0x0062ecb3  # or x25, x5, x6
+    .word 0x00012503  # lw x10, 0(x2)
+    .word 0x00412583  # lw x11, 4(x2)
+    .word 0x00812603  # lw x12, 8(x2)
+    .word 0x00c12683  # lw x13, 12(x2)
+    .word 0x01012703  # lw x14, 16(x2)
+    .word 0x01412783  # lw x15, 20(x2)
+    .word 0x01812803  # lw x16, 24(x2)
+    .word 0x01c12883  # lw x17, 28(x2)
+    .word 0x02012903  # lw x18, 32(x2)
+    .word 0x02412983  # lw x19, 36(x2)
+    .word 0x02812a03  # lw x20, 40(x2)
+    .word 0x02c12a83  # lw x21, 44(x2)
+    .word 0x03012b03  # lw x22, 48(x2)
+    .word 0x03412b83  # lw x23, 52(x2)
+    .word 0x03812c03  # lw x24, 56(x2)
+    .word 0x03c12c83  # lw x25, 60(x2)
     .word 0x00050d13  # addi x26, x10, 0
     .word 0x00058d93  # addi x27, x11, 0
     .word 0x04c12023  # sw x12, 64(x2)
@@ -229,7 +85,8 @@ salsa20_core:
     .word 0x07712623  # sw x23, 108(x2)
     .word 0x07812823  # sw x24, 112(x2)
     .word 0x07912a23  # sw x25, 116(x2)
-    .word 0x00000493  # addi x9, x0, 0
+    .word 0xfff00493  # addi x9, x0, -1
+    .word 0x00148493  # addi x9, x9, 1
     .word 0x01650433  # add x8, x10, x22
     .word 0x00741f13  # slli x30, x8, 7
     .word 0x01945313  # srli x6, x8, 25
@@ -390,10 +247,8 @@ salsa20_core:
     .word 0x00e45313  # srli x6, x8, 14
     .word 0x006f0333  # add x6, x30, x6
     .word 0x006cccb3  # xor x25, x25, x6
-    .word 0x00148493  # addi x9, x9, 1
-    .word 0x00a4b293  # sltiu x5, x9, 10
+    .word 0xff748293  # addi x5, x9, -9
     .word 0xd6029ce3  # bne x5, x0, -648
-    .word 0xfff48493  # addi x9, x9, -1
     .word 0x01a50433  # add x8, x10, x26
     .word 0x00810023  # sb x8, 0(x2)
     .word 0x00845293  # srli x5, x8, 8

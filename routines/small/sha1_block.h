@@ -6,7 +6,7 @@
 #define FACT_sha1_block_H
 #include <stdbool.h>
 #include <stdint.h>
-#define sha1_block_STACK_BYTES 272
+#define sha1_block_STACK_BYTES 240
 #ifdef __cplusplus
 extern "C" {
 #endif

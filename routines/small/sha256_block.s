@@ -1,4 +1,4 @@
-# sha256_block: made by factc 1.0.0 function; 861 words, 496 bytes of stack, profile 1
+# sha256_block: made by factc 1.0.0 function; 854 words, 496 bytes of stack, profile 1
     .option push
     .option norvc
     .option norelax
@@ -61,10 +61,8 @@ sha256_block:
     # the body
     .word 0x00000513  # addi x10, x0, 0
     .word 0x00000a93  # addi x21, x0, 0
-    .word 0x00000b93  # addi x23, x0, 0
-    .word 0x00000c13  # addi x24, x0, 0
     .word 0x00000c93  # addi x25, x0, 0
-    .word 0x002b9d93  # slli x27, x23, 2
+    .word 0x002c9d93  # slli x27, x25, 2
     .word 0x002d8db3  # add x27, x27, x2
     .word 0x06012023  # sw x0, 96(x2)
     .word 0x06012223  # sw x0, 100(x2)
@@ -274,7 +272,8 @@ sha256_block:
     .word 0xc67182b7  # lui x5, 0xc6718
     .word 0x8f228293  # addi x5, x5, -1806
     .word 0x18512e23  # sw x5, 412(x2)
-    .word 0x00000513  # addi x10, x0, 0
+    .word 0xfff00513  # addi x10, x0, -1
+    .word 0x00150513  # addi x10, x10, 1
     .word 0x00251d13  # slli x26, x10, 2
     .word 0x002d1493  # slli x9, x26, 2
     .word 0x002484b3  # add x9, x9, x2
@@ -295,10 +294,8 @@ sha256_block:
     .word 0x00251293  # slli x5, x10, 2
     .word 0x002282b3  # add x5, x5, x2
     .word 0x0662a023  # sw x6, 96(x5)
-    .word 0x00150513  # addi x10, x10, 1
-    .word 0x01053293  # sltiu x5, x10, 16
+    .word 0xff150293  # addi x5, x10, -15
     .word 0xfa0294e3  # bne x5, x0, -88
-    .word 0xfff50513  # addi x10, x10, -1
     .word 0x00012583  # lw x11, 0(x2)
     .word 0x00412603  # lw x12, 4(x2)
     .word 0x00812683  # lw x13, 8(x2)
@@ -308,17 +305,19 @@ sha256_block:
     .word 0x01812883  # lw x17, 24(x2)
     .word 0x01c12903  # lw x18, 28(x2)
     .word 0x00d649b3  # xor x19, x12, x13
-    .word 0x00000a93  # addi x21, x0, 0
-    .word 0x29507e63  # bgeu x0, x21, 668
+    .word 0xfff00a93  # addi x21, x0, -1
+    .word 0x001a8a93  # addi x21, x21, 1
+    .word 0x29507663  # bgeu x0, x21, 652
     .word 0x00078a13  # addi x20, x15, 0
     .word 0x00080b13  # addi x22, x16, 0
-    .word 0x1b112023  # sw x17, 416(x2)
-    .word 0x1b212223  # sw x18, 420(x2)
-    .word 0x00000b93  # addi x23, x0, 0
-    .word 0x002b9d93  # slli x27, x23, 2
+    .word 0x00088b93  # addi x23, x17, 0
+    .word 0x00090c13  # addi x24, x18, 0
+    .word 0xfff00c93  # addi x25, x0, -1
+    .word 0x001c8c93  # addi x25, x25, 1
+    .word 0x002c9d93  # slli x27, x25, 2
     .word 0x002d8db3  # add x27, x27, x2
     .word 0x064da783  # lw x15, 100(x27)
-    .word 0x00eb8293  # addi x5, x23, 14
+    .word 0x00ec8293  # addi x5, x25, 14
     .word 0x00f2f293  # andi x5, x5, 15
     .word 0x00229813  # slli x16, x5, 2
     .word 0x00280833  # add x16, x16, x2
@@ -334,7 +333,7 @@ sha256_block:
     .word 0x0062c2b3  # xor x5, x5, x6
     .word 0x060da303  # lw x6, 96(x27)
     .word 0x006282b3  # add x5, x5, x6
-    .word 0x009b8313  # addi x6, x23, 9
+    .word 0x009c8313  # addi x6, x25, 9
     .word 0x00f37313  # andi x6, x6, 15
     .word 0x00231313  # slli x6, x6, 2
     .word 0x00230333  # add x6, x6, x2
@@ -353,19 +352,16 @@ sha256_block:
     .word 0x060da303  # lw x6, 96(x27)
     .word 0x006282b3  # add x5, x5, x6
     .word 0x065da023  # sw x5, 96(x27)
-    .word 0x001b8b93  # addi x23, x23, 1
-    .word 0x002b9d93  # slli x27, x23, 2
-    .word 0x002d8db3  # add x27, x27, x2
-    .word 0x008bb293  # sltiu x5, x23, 8
+    .word 0xff9c8293  # addi x5, x25, -7
     .word 0xf60290e3  # bne x5, x0, -160
-    .word 0xfffb8b93  # addi x23, x23, -1
-    .word 0x002b9d93  # slli x27, x23, 2
-    .word 0x002d8db3  # add x27, x27, x2
     .word 0x08012783  # lw x15, 128(x2)
     .word 0x07812883  # lw x17, 120(x2)
     .word 0x07c12903  # lw x18, 124(x2)
-    .word 0x00000c13  # addi x24, x0, 0
-    .word 0x002c1d13  # slli x26, x24, 2
+    .word 0xfff00c93  # addi x25, x0, -1
+    .word 0x001c8c93  # addi x25, x25, 1
+    .word 0x002c9d93  # slli x27, x25, 2
+    .word 0x002d8db3  # add x27, x27, x2
+    .word 0x002c9d13  # slli x26, x25, 2
     .word 0x002d1493  # slli x9, x26, 2
     .word 0x002484b3  # add x9, x9, x2
     .word 0x0844a803  # lw x16, 132(x9)
@@ -468,15 +464,16 @@ sha256_block:
     .word 0x0062c2b3  # xor x5, x5, x6
     .word 0x01228933  # add x18, x5, x18
     .word 0x0924a623  # sw x18, 140(x9)
-    .word 0x001c0c13  # addi x24, x24, 1
-    .word 0x002c3293  # sltiu x5, x24, 2
-    .word 0xe4029ee3  # bne x5, x0, -420
-    .word 0xfffc0c13  # addi x24, x24, -1
+    .word 0xfffc8293  # addi x5, x25, -1
+    .word 0xe4029ae3  # bne x5, x0, -428
     .word 0x000a0793  # addi x15, x20, 0
     .word 0x000b0813  # addi x16, x22, 0
-    .word 0x1a012883  # lw x17, 416(x2)
-    .word 0x1a412903  # lw x18, 420(x2)
-    .word 0x00000c93  # addi x25, x0, 0
+    .word 0x000b8893  # addi x17, x23, 0
+    .word 0x000c0913  # addi x18, x24, 0
+    .word 0xfff00c93  # addi x25, x0, -1
+    .word 0x001c8c93  # addi x25, x25, 1
+    .word 0x002c9d93  # slli x27, x25, 2
+    .word 0x002d8db3  # add x27, x27, x2
     .word 0x003c9d13  # slli x26, x25, 3
     .word 0x002d1493  # slli x9, x26, 2
     .word 0x002484b3  # add x9, x9, x2
@@ -815,14 +812,10 @@ sha256_block:
     .word 0x00734333  # xor x6, x6, x7
     .word 0x006582b3  # add x5, x11, x6
     .word 0x014285b3  # add x11, x5, x20
-    .word 0x001c8c93  # addi x25, x25, 1
-    .word 0x002cb293  # sltiu x5, x25, 2
-    .word 0xaa0298e3  # bne x5, x0, -1360
-    .word 0xfffc8c93  # addi x25, x25, -1
-    .word 0x001a8a93  # addi x21, x21, 1
-    .word 0x004ab293  # sltiu x5, x21, 4
-    .word 0x800290e3  # bne x5, x0, -2048
-    .word 0xfffa8a93  # addi x21, x21, -1
+    .word 0xfffc8293  # addi x5, x25, -1
+    .word 0xaa0294e3  # bne x5, x0, -1368
+    .word 0xffda8293  # addi x5, x21, -3
+    .word 0x800296e3  # bne x5, x0, -2036
     .word 0x00012283  # lw x5, 0(x2)
     .word 0x00b282b3  # add x5, x5, x11
     .word 0x00512023  # sw x5, 0(x2)

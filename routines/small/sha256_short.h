@@ -6,7 +6,7 @@
 #define FACT_sha256_short_H
 #include <stdbool.h>
 #include <stdint.h>
-#define sha256_short_STACK_BYTES 752
+#define sha256_short_STACK_BYTES 736
 #ifdef __cplusplus
 extern "C" {
 #endif

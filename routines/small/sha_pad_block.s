@@ -1,4 +1,4 @@
-# sha_pad_block: made by factc 1.0.0 function; 128 words, 128 bytes of stack, profile 1
+# sha_pad_block: made by factc 1.0.0 function; 121 words, 128 bytes of stack, profile 1
     .option push
     .option norvc
     .option norelax
@@ -21,8 +21,6 @@ sha_pad_block:
     .cfi_offset 18, -24
     .word 0x01312623  # sw x19, 12(x2)
     .cfi_offset 19, -20
-    .word 0x01412823  # sw x20, 16(x2)
-    .cfi_offset 20, -16
     # arguments that are needed behind the body
     .word 0x00a12e23  # sw x10, 28(x2)
     # the frame's base
@@ -44,15 +42,14 @@ sha_pad_block:
     # the body
     .word 0x04012583  # lw x11, 64(x2)
     .word 0x04412603  # lw x12, 68(x2)
-    .word 0x00000793  # addi x15, x0, 0
-    .word 0x00000993  # addi x19, x0, 0
-    .word 0x00278a33  # add x20, x15, x2
-    .word 0x00659693  # slli x13, x11, 6
-    .word 0x40d60733  # sub x14, x12, x13
-    .word 0x00d632b3  # sltu x5, x12, x13
+    .word 0x00000713  # addi x14, x0, 0
+    .word 0x002709b3  # add x19, x14, x2
+    .word 0x00659913  # slli x18, x11, 6
+    .word 0x412606b3  # sub x13, x12, x18
+    .word 0x012632b3  # sltu x5, x12, x18
     .word 0x00100313  # addi x6, x0, 1
-    .word 0x04073393  # sltiu x7, x14, 64
-    .word 0x40e00433  # sub x8, x0, x14
+    .word 0x0406b393  # sltiu x7, x13, 64
+    .word 0x40d00433  # sub x8, x0, x13
     .word 0x000004b7  # lui x9, 0x00000
     .word 0xfc048493  # addi x9, x9, -64
     .word 0x407003b3  # sub x7, x0, x7
@@ -62,59 +59,55 @@ sha_pad_block:
     .word 0x405002b3  # sub x5, x0, x5
     .word 0x00734333  # xor x6, x6, x7
     .word 0x00537333  # and x6, x6, x5
-    .word 0x0063c733  # xor x14, x7, x6
-    .word 0x00000793  # addi x15, x0, 0
-    .word 0x00278a33  # add x20, x15, x2
-    .word 0xfff70813  # addi x16, x14, -1
-    .word 0x000a4283  # lbu x5, 0(x20)
-    .word 0x00875313  # srli x6, x14, 8
-    .word 0x0062f8b3  # and x17, x5, x6
-    .word 0x00e842b3  # xor x5, x16, x14
-    .word 0x0102f2b3  # and x5, x5, x16
-    .word 0x0802f813  # andi x16, x5, 128
-    .word 0x0108e2b3  # or x5, x17, x16
-    .word 0x005a0023  # sb x5, 0(x20)
+    .word 0x0063c6b3  # xor x13, x7, x6
+    .word 0xfff00713  # addi x14, x0, -1
     .word 0x00170713  # addi x14, x14, 1
-    .word 0x00178793  # addi x15, x15, 1
-    .word 0x00278a33  # add x20, x15, x2
-    .word 0x0407b293  # sltiu x5, x15, 64
+    .word 0x002709b3  # add x19, x14, x2
+    .word 0xfff68793  # addi x15, x13, -1
+    .word 0x0009c283  # lbu x5, 0(x19)
+    .word 0x0086d313  # srli x6, x13, 8
+    .word 0x0062f833  # and x16, x5, x6
+    .word 0x00d7c2b3  # xor x5, x15, x13
+    .word 0x00f2f2b3  # and x5, x5, x15
+    .word 0x0802f793  # andi x15, x5, 128
+    .word 0x00f862b3  # or x5, x16, x15
+    .word 0x00598023  # sb x5, 0(x19)
+    .word 0x00168693  # addi x13, x13, 1
+    .word 0xfc170293  # addi x5, x14, -63
     .word 0xfc0296e3  # bne x5, x0, -52
-    .word 0xfff78793  # addi x15, x15, -1
-    .word 0x00278a33  # add x20, x15, x2
     .word 0x00860293  # addi x5, x12, 8
     .word 0x0062d293  # srli x5, x5, 6
-    .word 0x40b28933  # sub x18, x5, x11
-    .word 0x00193913  # sltiu x18, x18, 1
+    .word 0x40b288b3  # sub x17, x5, x11
+    .word 0x0018b893  # sltiu x17, x17, 1
     .word 0x01d65313  # srli x6, x12, 29
     .word 0x0ff37313  # andi x6, x6, 255
     .word 0x03b14383  # lbu x7, 59(x2)
-    .word 0x412002b3  # sub x5, x0, x18
+    .word 0x411002b3  # sub x5, x0, x17
     .word 0x00734333  # xor x6, x6, x7
     .word 0x00537333  # and x6, x6, x5
     .word 0x0063c2b3  # xor x5, x7, x6
     .word 0x02510da3  # sb x5, 59(x2)
-    .word 0x00000993  # addi x19, x0, 0
-    .word 0x03c98293  # addi x5, x19, 60
+    .word 0xfff00913  # addi x18, x0, -1
+    .word 0x00190913  # addi x18, x18, 1
+    .word 0x03c90293  # addi x5, x18, 60
     .word 0x00361393  # slli x7, x12, 3
     .word 0x01800413  # addi x8, x0, 24
-    .word 0x00399493  # slli x9, x19, 3
+    .word 0x00391493  # slli x9, x18, 3
     .word 0x40940433  # sub x8, x8, x9
     .word 0x0083d3b3  # srl x7, x7, x8
     .word 0x0ff3f393  # andi x7, x7, 255
-    .word 0x03c98413  # addi x8, x19, 60
+    .word 0x03c90413  # addi x8, x18, 60
     .word 0x00240433  # add x8, x8, x2
     .word 0x00044403  # lbu x8, 0(x8)
-    .word 0x41200333  # sub x6, x0, x18
+    .word 0x41100333  # sub x6, x0, x17
     .word 0x0083c3b3  # xor x7, x7, x8
     .word 0x0063f3b3  # and x7, x7, x6
     .word 0x00744333  # xor x6, x8, x7
     .word 0x002282b3  # add x5, x5, x2
     .word 0x00628023  # sb x6, 0(x5)
-    .word 0x00198993  # addi x19, x19, 1
-    .word 0x0049b293  # sltiu x5, x19, 4
+    .word 0xffd90293  # addi x5, x18, -3
     .word 0xfa029ce3  # bne x5, x0, -72
-    .word 0xfff98993  # addi x19, x19, -1
-    .word 0x05212423  # sw x18, 72(x2)
+    .word 0x05112423  # sw x17, 72(x2)
     # the result
     .word 0x04812503  # lw x10, 72(x2)
     # parameter 0: the array, back
@@ -137,8 +130,6 @@ sha_pad_block:
     .cfi_restore 18
     .word 0x00c2a983  # lw x19, 12(x5)
     .cfi_restore 19
-    .word 0x0102aa03  # lw x20, 16(x5)
-    .cfi_restore 20
     # the caller's x2
     .word 0x02028293  # addi x5, x5, 32
     .cfi_def_cfa 5, 0

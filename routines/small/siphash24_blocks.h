@@ -6,7 +6,7 @@
 #define FACT_siphash24_blocks_H
 #include <stdbool.h>
 #include <stdint.h>
-#define siphash24_blocks_STACK_BYTES 176
+#define siphash24_blocks_STACK_BYTES 160
 #ifdef __cplusplus
 extern "C" {
 #endif

@@ -1,4 +1,4 @@
-# siphash24_blocks: made by factc 1.0.0 function; 197 words, 176 bytes of stack, profile 1
+# siphash24_blocks: made by factc 1.0.0 function; 197 words, 160 bytes of stack, profile 1
     .option push
     .option norvc
     .option norelax
@@ -10,30 +10,26 @@
 siphash24_blocks:
     .cfi_startproc
     # room above the frame
-    .word 0xfd010113  # addi x2, x2, -48
-    .cfi_def_cfa_offset 48
+    .word 0xfe010113  # addi x2, x2, -32
+    .cfi_def_cfa_offset 32
     # the caller's registers
     .word 0x01212023  # sw x18, 0(x2)
-    .cfi_offset 18, -48
+    .cfi_offset 18, -32
     .word 0x01312223  # sw x19, 4(x2)
-    .cfi_offset 19, -44
+    .cfi_offset 19, -28
     .word 0x01412423  # sw x20, 8(x2)
-    .cfi_offset 20, -40
+    .cfi_offset 20, -24
     .word 0x01512623  # sw x21, 12(x2)
-    .cfi_offset 21, -36
+    .cfi_offset 21, -20
     .word 0x01612823  # sw x22, 16(x2)
-    .cfi_offset 22, -32
+    .cfi_offset 22, -16
     .word 0x01712a23  # sw x23, 20(x2)
-    .cfi_offset 23, -28
-    .word 0x01812c23  # sw x24, 24(x2)
-    .cfi_offset 24, -24
-    .word 0x01912e23  # sw x25, 28(x2)
-    .cfi_offset 25, -20
+    .cfi_offset 23, -12
     # arguments that are needed behind the body
-    .word 0x02a12623  # sw x10, 44(x2)
+    .word 0x00a12e23  # sw x10, 28(x2)
     # the frame's base
     .word 0xf8010113  # addi x2, x2, -128
-    .cfi_def_cfa 2, 176
+    .cfi_def_cfa 2, 160
     # parameter 0: an array
     .word 0x00050293  # addi x5, x10, 0
     .word 0x00010313  # addi x6, x2, 0
@@ -57,7 +53,6 @@ siphash24_blocks:
     # the body
     .word 0x06012503  # lw x10, 96(x2)
     .word 0x00000a13  # addi x20, x0, 0
-    .word 0x00000c13  # addi x24, x0, 0
     .word 0x00012583  # lw x11, 0(x2)
     .word 0x00412603  # lw x12, 4(x2)
     .word 0x00812683  # lw x13, 8(x2)
@@ -80,36 +75,43 @@ siphash24_blocks:
     .word 0x06c12283  # lw x5, 108(x2)
     .word 0x005332b3  # sltu x5, x6, x5
     .word 0x00029463  # bne x5, x0, 8
-    .word 0x1800006f  # jal x0, 384
+    .word 0x1940006f  # jal x0, 404
     .word 0x00030a13  # addi x20, x6, 0
-    .word 0x003a1a93  # slli x21, x20, 3
-    .word 0x002a8cb3  # add x25, x21, x2
-    .word 0x020cc283  # lbu x5, 32(x25)
-    .word 0x021cc303  # lbu x6, 33(x25)
+    .word 0x003a1b93  # slli x23, x20, 3
+    .word 0x002b82b3  # add x5, x23, x2
+    .word 0x0202c283  # lbu x5, 32(x5)
+    .word 0x002b8333  # add x6, x23, x2
+    .word 0x02134303  # lbu x6, 33(x6)
     .word 0x00831313  # slli x6, x6, 8
-    .word 0x0062e9b3  # or x19, x5, x6
-    .word 0x022cc303  # lbu x6, 34(x25)
+    .word 0x0062e2b3  # or x5, x5, x6
+    .word 0x002b8333  # add x6, x23, x2
+    .word 0x02234303  # lbu x6, 34(x6)
     .word 0x01031313  # slli x6, x6, 16
-    .word 0x0069e2b3  # or x5, x19, x6
-    .word 0x023cc303  # lbu x6, 35(x25)
+    .word 0x0062e2b3  # or x5, x5, x6
+    .word 0x002b8333  # add x6, x23, x2
+    .word 0x02334303  # lbu x6, 35(x6)
+    .word 0x01831313  # slli x6, x6, 24
+    .word 0x0062eab3  # or x21, x5, x6
+    .word 0x003a1293  # slli x5, x20, 3
+    .word 0x00428b93  # addi x23, x5, 4
+    .word 0x002b82b3  # add x5, x23, x2
+    .word 0x0202c283  # lbu x5, 32(x5)
+    .word 0x002b8333  # add x6, x23, x2
+    .word 0x02134303  # lbu x6, 33(x6)
+    .word 0x00831313  # slli x6, x6, 8
+    .word 0x0062e2b3  # or x5, x5, x6
+    .word 0x002b8333  # add x6, x23, x2
+    .word 0x02234303  # lbu x6, 34(x6)
+    .word 0x01031313  # slli x6, x6, 16
+    .word 0x0062e2b3  # or x5, x5, x6
+    .word 0x002b8333  # add x6, x23, x2
+    .word 0x02334303  # lbu x6, 35(x6)
     .word 0x01831313  # slli x6, x6, 24
     .word 0x0062eb33  # or x22, x5, x6
-    .word 0x003a1293  # slli x5, x20, 3
-    .word 0x00428a93  # addi x21, x5, 4
-    .word 0x002a8cb3  # add x25, x21, x2
-    .word 0x020cc283  # lbu x5, 32(x25)
-    .word 0x021cc303  # lbu x6, 33(x25)
-    .word 0x00831313  # slli x6, x6, 8
-    .word 0x0062e9b3  # or x19, x5, x6
-    .word 0x022cc303  # lbu x6, 34(x25)
-    .word 0x01031313  # slli x6, x6, 16
-    .word 0x0069e2b3  # or x5, x19, x6
-    .word 0x023cc303  # lbu x6, 35(x25)
-    .word 0x01831313  # slli x6, x6, 24
-    .word 0x0062ebb3  # or x23, x5, x6
-    .word 0x0168c8b3  # xor x17, x17, x22
-    .word 0x01794933  # xor x18, x18, x23
-    .word 0x00000c13  # addi x24, x0, 0
+    .word 0x0158c8b3  # xor x17, x17, x21
+    .word 0x01694933  # xor x18, x18, x22
+    .word 0xfff00b93  # addi x23, x0, -1
+    .word 0x001b8b93  # addi x23, x23, 1
     .word 0x00d585b3  # add x11, x11, x13
     .word 0x00e602b3  # add x5, x12, x14
     .word 0x00d5b333  # sltu x6, x11, x13
@@ -164,16 +166,14 @@ siphash24_blocks:
     .word 0x00078993  # addi x19, x15, 0
     .word 0x00080793  # addi x15, x16, 0
     .word 0x00098813  # addi x16, x19, 0
-    .word 0x001c0c13  # addi x24, x24, 1
-    .word 0x002c3293  # sltiu x5, x24, 2
+    .word 0xfffb8293  # addi x5, x23, -1
     .word 0xf20290e3  # bne x5, x0, -224
-    .word 0xfffc0c13  # addi x24, x24, -1
-    .word 0x0165c5b3  # xor x11, x11, x22
-    .word 0x01764633  # xor x12, x12, x23
+    .word 0x0155c5b3  # xor x11, x11, x21
+    .word 0x01664633  # xor x12, x12, x22
     .word 0x001a0a13  # addi x20, x20, 1
     .word 0x06c12283  # lw x5, 108(x2)
     .word 0x005a32b3  # sltu x5, x20, x5
-    .word 0xe8029ae3  # bne x5, x0, -364
+    .word 0xe80290e3  # bne x5, x0, -384
     .word 0xfffa0a13  # addi x20, x20, -1
     .word 0x0040006f  # jal x0, 4
     .word 0x00b12023  # sw x11, 0(x2)
@@ -188,7 +188,7 @@ siphash24_blocks:
     .word 0x00000513  # addi x10, x0, 0
     # parameter 0: the array, back
     .word 0x00010293  # addi x5, x2, 0
-    .word 0x0ac12303  # lw x6, 172(x2)
+    .word 0x09c12303  # lw x6, 156(x2)
     .word 0x02028393  # addi x7, x5, 32
     .word 0x0002ae03  # lw x28, 0(x5)
     .word 0x01c32023  # sw x28, 0(x6)
@@ -210,12 +210,8 @@ siphash24_blocks:
     .cfi_restore 22
     .word 0x0142ab83  # lw x23, 20(x5)
     .cfi_restore 23
-    .word 0x0182ac03  # lw x24, 24(x5)
-    .cfi_restore 24
-    .word 0x01c2ac83  # lw x25, 28(x5)
-    .cfi_restore 25
     # the caller's x2
-    .word 0x03028293  # addi x5, x5, 48
+    .word 0x02028293  # addi x5, x5, 32
     .cfi_def_cfa 5, 0
     # all the room, wiped upward
     .word 0x00012023  # sw x0, 0(x2)

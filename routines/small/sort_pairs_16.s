@@ -1,4 +1,4 @@
-# sort_pairs_16: made by factc 1.0.0 function; 142 words, 208 bytes of stack, profile 1
+# sort_pairs_16: made by factc 1.0.0 function; 140 words, 208 bytes of stack, profile 1
     .option push
     .option norvc
     .option norelax
@@ -62,10 +62,12 @@ sort_pairs_16:
     .word 0x00000713  # addi x14, x0, 0
     .word 0x00100513  # addi x10, x0, 1
     .word 0x00000593  # addi x11, x0, 0
-    .word 0x00000613  # addi x12, x0, 0
+    .word 0xfff00613  # addi x12, x0, -1
+    .word 0x00160613  # addi x12, x12, 1
     .word 0x00100293  # addi x5, x0, 1
     .word 0x00b296b3  # sll x13, x5, x11
-    .word 0x00000713  # addi x14, x0, 0
+    .word 0xfff00713  # addi x14, x0, -1
+    .word 0x00170713  # addi x14, x14, 1
     .word 0x00b752b3  # srl x5, x14, x11
     .word 0x00158313  # addi x6, x11, 1
     .word 0x006292b3  # sll x5, x5, x6
@@ -105,10 +107,8 @@ sort_pairs_16:
     .word 0x045d2023  # sw x5, 64(x26)
     .word 0x017a42b3  # xor x5, x20, x23
     .word 0x045da023  # sw x5, 64(x27)
-    .word 0x00170713  # addi x14, x14, 1
-    .word 0x00873293  # sltiu x5, x14, 8
+    .word 0xff970293  # addi x5, x14, -7
     .word 0xf4029ee3  # bne x5, x0, -164
-    .word 0xfff70713  # addi x14, x14, -1
     .word 0x0015bc93  # sltiu x25, x11, 1
     .word 0xfff58393  # addi x7, x11, -1
     .word 0x419002b3  # sub x5, x0, x25
@@ -116,10 +116,8 @@ sort_pairs_16:
     .word 0x00537333  # and x6, x6, x5
     .word 0x0063c5b3  # xor x11, x7, x6
     .word 0x01950533  # add x10, x10, x25
-    .word 0x00160613  # addi x12, x12, 1
-    .word 0x00a63293  # sltiu x5, x12, 10
-    .word 0xf20292e3  # bne x5, x0, -220
-    .word 0xfff60613  # addi x12, x12, -1
+    .word 0xff760293  # addi x5, x12, -9
+    .word 0xf20294e3  # bne x5, x0, -216
     # the result
     .word 0x00000513  # addi x10, x0, 0
     # parameter 0: the array, back

@@ -1,4 +1,4 @@
-# speck64_decrypt: made by factc 1.0.0 function; 161 words, 64 bytes of stack, profile 1
+# speck64_decrypt: made by factc 1.0.0 function; 156 words, 64 bytes of stack, profile 1
     .option push
     .option norvc
     .option norelax
@@ -13,8 +13,6 @@ speck64_decrypt:
     .word 0xff010113  # addi x2, x2, -16
     .cfi_def_cfa_offset 16
     # the caller's registers
-    .word 0x01212023  # sw x18, 0(x2)
-    .cfi_offset 18, -16
     # arguments that are needed behind the body
     .word 0x00a12423  # sw x10, 8(x2)
     .word 0x00b12623  # sw x11, 12(x2)
@@ -39,14 +37,14 @@ speck64_decrypt:
     .word 0x01c32223  # sw x28, 4(x6)
     # the body
     .word 0x00000813  # addi x16, x0, 0
-    .word 0x00000913  # addi x18, x0, 0
     .word 0x01012503  # lw x10, 16(x2)
     .word 0x01412583  # lw x11, 20(x2)
     .word 0x00c12603  # lw x12, 12(x2)
     .word 0x00812683  # lw x13, 8(x2)
     .word 0x00412703  # lw x14, 4(x2)
     .word 0x00012783  # lw x15, 0(x2)
-    .word 0x00000813  # addi x16, x0, 0
+    .word 0xfff00813  # addi x16, x0, -1
+    .word 0x00180813  # addi x16, x16, 1
     .word 0x00300293  # addi x5, x0, 3
     .word 0x030288b3  # mul x17, x5, x16
     .word 0x01869f13  # slli x30, x13, 24
@@ -78,14 +76,13 @@ speck64_decrypt:
     .word 0x01d65293  # srli x5, x12, 29
     .word 0x005f02b3  # add x5, x30, x5
     .word 0x00f2c633  # xor x12, x5, x15
-    .word 0x00180813  # addi x16, x16, 1
-    .word 0x00983293  # sltiu x5, x16, 9
+    .word 0xff880293  # addi x5, x16, -8
     .word 0xf6029ee3  # bne x5, x0, -132
-    .word 0xfff80813  # addi x16, x16, -1
-    .word 0x00000913  # addi x18, x0, 0
+    .word 0xfff00813  # addi x16, x0, -1
+    .word 0x00180813  # addi x16, x16, 1
     .word 0x01800293  # addi x5, x0, 24
     .word 0x00300313  # addi x6, x0, 3
-    .word 0x03230333  # mul x6, x6, x18
+    .word 0x03030333  # mul x6, x6, x16
     .word 0x406288b3  # sub x17, x5, x6
     .word 0x00f642b3  # xor x5, x12, x15
     .word 0x01d29f13  # slli x30, x5, 29
@@ -143,10 +140,8 @@ speck64_decrypt:
     .word 0x00829f13  # slli x30, x5, 8
     .word 0x0182d513  # srli x10, x5, 24
     .word 0x00af0533  # add x10, x30, x10
-    .word 0x00190913  # addi x18, x18, 1
-    .word 0x00993293  # sltiu x5, x18, 9
+    .word 0xff880293  # addi x5, x16, -8
     .word 0xf00294e3  # bne x5, x0, -248
-    .word 0xfff90913  # addi x18, x18, -1
     .word 0x00a12823  # sw x10, 16(x2)
     .word 0x00b12a23  # sw x11, 20(x2)
     # the result
@@ -161,8 +156,6 @@ speck64_decrypt:
     # above the frame
     .word 0x03010293  # addi x5, x2, 48
     # the caller's registers
-    .word 0x0002a903  # lw x18, 0(x5)
-    .cfi_restore 18
     # the caller's x2
     .word 0x01028293  # addi x5, x5, 16
     .cfi_def_cfa 5, 0

@@ -1,4 +1,4 @@
-# speck64_encrypt: made by factc 1.0.0 function; 120 words, 64 bytes of stack, profile 1
+# speck64_encrypt: made by factc 1.0.0 function; 119 words, 64 bytes of stack, profile 1
     .option push
     .option norvc
     .option norelax
@@ -43,7 +43,8 @@ speck64_encrypt:
     .word 0x00812683  # lw x13, 8(x2)
     .word 0x00412703  # lw x14, 4(x2)
     .word 0x00012783  # lw x15, 0(x2)
-    .word 0x00000813  # addi x16, x0, 0
+    .word 0xfff00813  # addi x16, x0, -1
+    .word 0x00180813  # addi x16, x16, 1
     .word 0x00300293  # addi x5, x0, 3
     .word 0x030288b3  # mul x17, x5, x16
     .word 0x01851f13  # slli x30, x10, 24
@@ -102,10 +103,8 @@ speck64_encrypt:
     .word 0x01d65293  # srli x5, x12, 29
     .word 0x005f02b3  # add x5, x30, x5
     .word 0x00f2c633  # xor x12, x5, x15
-    .word 0x00180813  # addi x16, x16, 1
-    .word 0x00983293  # sltiu x5, x16, 9
+    .word 0xff880293  # addi x5, x16, -8
     .word 0xf00298e3  # bne x5, x0, -240
-    .word 0xfff80813  # addi x16, x16, -1
     .word 0x00a12823  # sw x10, 16(x2)
     .word 0x00b12a23  # sw x11, 20(x2)
     # the result

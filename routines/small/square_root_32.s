@@ -1,4 +1,4 @@
-# square_root_32: made by factc 1.0.0 function; 47 words, 16 bytes of stack, profile 1
+# square_root_32: made by factc 1.0.0 function; 46 words, 16 bytes of stack, profile 1
     .option push
     .option norvc
     .option norelax
@@ -25,7 +25,8 @@ square_root_32:
     .word 0x00000613  # addi x12, x0, 0
     .word 0x400006b7  # lui x13, 0x40000
     .word 0x00068693  # addi x13, x13, 0
-    .word 0x00000713  # addi x14, x0, 0
+    .word 0xfff00713  # addi x14, x0, -1
+    .word 0x00170713  # addi x14, x14, 1
     .word 0x00d607b3  # add x15, x12, x13
     .word 0x00f5b2b3  # sltu x5, x11, x15
     .word 0xfff28813  # addi x16, x5, -1
@@ -35,10 +36,8 @@ square_root_32:
     .word 0x0106f333  # and x6, x13, x16
     .word 0x00628633  # add x12, x5, x6
     .word 0x0026d693  # srli x13, x13, 2
-    .word 0x00170713  # addi x14, x14, 1
-    .word 0x01073293  # sltiu x5, x14, 16
+    .word 0xff170293  # addi x5, x14, -15
     .word 0xfc029ae3  # bne x5, x0, -44
-    .word 0xfff70713  # addi x14, x14, -1
     .word 0x00c12223  # sw x12, 4(x2)
     # the result
     .word 0x00412503  # lw x10, 4(x2)

@@ -1,4 +1,4 @@
-# swap_32: made by factc 1.0.0 function; 83 words, 96 bytes of stack, profile 1
+# swap_32: made by factc 1.0.0 function; 80 words, 96 bytes of stack, profile 1
     .option push
     .option norvc
     .option norelax
@@ -46,7 +46,8 @@ swap_32:
     .word 0x00000613  # addi x12, x0, 0
     .word 0x00260833  # add x16, x12, x2
     .word 0x40a005b3  # sub x11, x0, x10
-    .word 0x00000613  # addi x12, x0, 0
+    .word 0xfff00613  # addi x12, x0, -1
+    .word 0x00160613  # addi x12, x12, 1
     .word 0x00260833  # add x16, x12, x2
     .word 0x00484683  # lbu x13, 4(x16)
     .word 0x02484703  # lbu x14, 36(x16)
@@ -56,12 +57,8 @@ swap_32:
     .word 0x00580223  # sb x5, 4(x16)
     .word 0x00f742b3  # xor x5, x14, x15
     .word 0x02580223  # sb x5, 36(x16)
-    .word 0x00160613  # addi x12, x12, 1
-    .word 0x00260833  # add x16, x12, x2
-    .word 0x02063293  # sltiu x5, x12, 32
+    .word 0xfe160293  # addi x5, x12, -31
     .word 0xfc029ae3  # bne x5, x0, -44
-    .word 0xfff60613  # addi x12, x12, -1
-    .word 0x00260833  # add x16, x12, x2
     # the result
     .word 0x00000513  # addi x10, x0, 0
     # parameter 1: the array, back

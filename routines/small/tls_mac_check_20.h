@@ -6,7 +6,7 @@
 #define FACT_tls_mac_check_20_H
 #include <stdbool.h>
 #include <stdint.h>
-#define tls_mac_check_20_STACK_BYTES 448
+#define tls_mac_check_20_STACK_BYTES 416
 #ifdef __cplusplus
 extern "C" {
 #endif

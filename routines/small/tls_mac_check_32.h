@@ -6,7 +6,7 @@
 #define FACT_tls_mac_check_32_H
 #include <stdbool.h>
 #include <stdint.h>
-#define tls_mac_check_32_STACK_BYTES 480
+#define tls_mac_check_32_STACK_BYTES 432
 #ifdef __cplusplus
 extern "C" {
 #endif

@@ -1,4 +1,4 @@
-# tls_mac_check_32: made by factc 1.0.0 function; 285 words, 480 bytes of stack, profile 1
+# tls_mac_check_32: made by factc 1.0.0 function; 238 words, 432 bytes of stack, profile 1
     .option push
     .option norvc
     .option norelax
@@ -10,33 +10,21 @@
 tls_mac_check_32:
     .cfi_startproc
     # room above the frame
-    .word 0xfd010113  # addi x2, x2, -48
-    .cfi_def_cfa_offset 48
+    .word 0xff010113  # addi x2, x2, -16
+    .cfi_def_cfa_offset 16
     # the caller's registers
     .word 0x01212023  # sw x18, 0(x2)
-    .cfi_offset 18, -48
+    .cfi_offset 18, -16
     .word 0x01312223  # sw x19, 4(x2)
-    .cfi_offset 19, -44
+    .cfi_offset 19, -12
     .word 0x01412423  # sw x20, 8(x2)
-    .cfi_offset 20, -40
+    .cfi_offset 20, -8
     .word 0x01512623  # sw x21, 12(x2)
-    .cfi_offset 21, -36
-    .word 0x01612823  # sw x22, 16(x2)
-    .cfi_offset 22, -32
-    .word 0x01712a23  # sw x23, 20(x2)
-    .cfi_offset 23, -28
-    .word 0x01812c23  # sw x24, 24(x2)
-    .cfi_offset 24, -24
-    .word 0x01912e23  # sw x25, 28(x2)
-    .cfi_offset 25, -20
-    .word 0x03a12023  # sw x26, 32(x2)
-    .cfi_offset 26, -16
-    .word 0x03b12223  # sw x27, 36(x2)
-    .cfi_offset 27, -12
+    .cfi_offset 21, -4
     # arguments that are needed behind the body
     # the frame's base
-    .word 0xe5010113  # addi x2, x2, -432
-    .cfi_def_cfa 2, 480
+    .word 0xe6010113  # addi x2, x2, -416
+    .cfi_def_cfa 2, 432
     # parameter 0: an array
     .word 0x00050293  # addi x5, x10, 0
     .word 0x00010313  # addi x6, x2, 0
@@ -58,29 +46,16 @@ tls_mac_check_32:
     .word 0x00130313  # addi x6, x6, 1
     .word 0xfe7298e3  # bne x5, x7, -16
     # the body
-    .word 0x00000593  # addi x11, x0, 0
-    .word 0x00000713  # addi x14, x0, 0
-    .word 0x00000913  # addi x18, x0, 0
+    .word 0x12012503  # lw x10, 288(x2)
+    .word 0x00000693  # addi x13, x0, 0
     .word 0x00000993  # addi x19, x0, 0
     .word 0x00000a13  # addi x20, x0, 0
-    .word 0x00000a93  # addi x21, x0, 0
-    .word 0x00000b13  # addi x22, x0, 0
-    .word 0x00000b93  # addi x23, x0, 0
-    .word 0x00271c13  # slli x24, x14, 2
-    .word 0x002c0c33  # add x24, x24, x2
-    .word 0x00299c93  # slli x25, x19, 2
-    .word 0x002c8cb3  # add x25, x25, x2
-    .word 0x002a1d13  # slli x26, x20, 2
-    .word 0x002d0d33  # add x26, x26, x2
-    .word 0x002b1d93  # slli x27, x22, 2
-    .word 0x002d8db3  # add x27, x27, x2
+    .word 0x002a1a93  # slli x21, x20, 2
+    .word 0x002a8ab3  # add x21, x21, x2
     .word 0x10000293  # addi x5, x0, 256
-    .word 0x12012303  # lw x6, 288(x2)
-    .word 0x406282b3  # sub x5, x5, x6
-    .word 0x14512223  # sw x5, 324(x2)
-    .word 0x14412283  # lw x5, 324(x2)
-    .word 0x0022d513  # srli x10, x5, 2
-    .word 0x14800313  # addi x6, x0, 328
+    .word 0x40a285b3  # sub x11, x5, x10
+    .word 0x0025d613  # srli x12, x11, 2
+    .word 0x14400313  # addi x6, x0, 324
     .word 0x00230333  # add x6, x6, x2
     .word 0x02400393  # addi x7, x0, 36
     .word 0x006383b3  # add x7, x7, x6
@@ -90,70 +65,65 @@ tls_mac_check_32:
     .word 0x00032023  # sw x0, 0(x6)
     .word 0x00430313  # addi x6, x6, 4
     .word 0xfedff06f  # jal x0, -20
-    .word 0x00000593  # addi x11, x0, 0
+    .word 0xfff00693  # addi x13, x0, -1
+    .word 0x00168693  # addi x13, x13, 1
     .word 0x02400293  # addi x5, x0, 36
-    .word 0x0075f313  # andi x6, x11, 7
-    .word 0x02628633  # mul x12, x5, x6
+    .word 0x0076f313  # andi x6, x13, 7
+    .word 0x02628733  # mul x14, x5, x6
     .word 0x00900293  # addi x5, x0, 9
-    .word 0x02b282b3  # mul x5, x5, x11
-    .word 0x40a286b3  # sub x13, x5, x10
-    .word 0x00000713  # addi x14, x0, 0
-    .word 0x00271c13  # slli x24, x14, 2
-    .word 0x002c0c33  # add x24, x24, x2
-    .word 0x00271793  # slli x15, x14, 2
-    .word 0x00f602b3  # add x5, x12, x15
+    .word 0x02d282b3  # mul x5, x5, x13
+    .word 0x40c287b3  # sub x15, x5, x12
+    .word 0xfff00a13  # addi x20, x0, -1
+    .word 0x001a0a13  # addi x20, x20, 1
+    .word 0x002a1a93  # slli x21, x20, 2
+    .word 0x002a8ab3  # add x21, x21, x2
+    .word 0x002a1813  # slli x16, x20, 2
+    .word 0x010702b3  # add x5, x14, x16
     .word 0x002282b3  # add x5, x5, x2
     .word 0x0002c283  # lbu x5, 0(x5)
-    .word 0x00178393  # addi x7, x15, 1
-    .word 0x00760333  # add x6, x12, x7
-    .word 0x00230333  # add x6, x6, x2
-    .word 0x00034303  # lbu x6, 0(x6)
-    .word 0x00831313  # slli x6, x6, 8
-    .word 0x0062e833  # or x16, x5, x6
-    .word 0x00278313  # addi x6, x15, 2
-    .word 0x006602b3  # add x5, x12, x6
-    .word 0x002282b3  # add x5, x5, x2
-    .word 0x0002c283  # lbu x5, 0(x5)
-    .word 0x00378393  # addi x7, x15, 3
-    .word 0x00760333  # add x6, x12, x7
+    .word 0x00180393  # addi x7, x16, 1
+    .word 0x00770333  # add x6, x14, x7
     .word 0x00230333  # add x6, x6, x2
     .word 0x00034303  # lbu x6, 0(x6)
     .word 0x00831313  # slli x6, x6, 8
     .word 0x0062e8b3  # or x17, x5, x6
-    .word 0x148c2283  # lw x5, 328(x24)
-    .word 0x01089313  # slli x6, x17, 16
-    .word 0x01036333  # or x6, x6, x16
-    .word 0x00e683b3  # add x7, x13, x14
+    .word 0x00280313  # addi x6, x16, 2
+    .word 0x006702b3  # add x5, x14, x6
+    .word 0x002282b3  # add x5, x5, x2
+    .word 0x0002c283  # lbu x5, 0(x5)
+    .word 0x00380393  # addi x7, x16, 3
+    .word 0x00770333  # add x6, x14, x7
+    .word 0x00230333  # add x6, x6, x2
+    .word 0x00034303  # lbu x6, 0(x6)
+    .word 0x00831313  # slli x6, x6, 8
+    .word 0x0062e933  # or x18, x5, x6
+    .word 0x144aa283  # lw x5, 324(x21)
+    .word 0x01091313  # slli x6, x18, 16
+    .word 0x01136333  # or x6, x6, x17
+    .word 0x014783b3  # add x7, x15, x20
     .word 0x0093b393  # sltiu x7, x7, 9
     .word 0x407003b3  # sub x7, x0, x7
     .word 0x00737333  # and x6, x6, x7
     .word 0x0062e2b3  # or x5, x5, x6
-    .word 0x145c2423  # sw x5, 328(x24)
-    .word 0x00170713  # addi x14, x14, 1
-    .word 0x00271c13  # slli x24, x14, 2
-    .word 0x002c0c33  # add x24, x24, x2
-    .word 0x00973293  # sltiu x5, x14, 9
+    .word 0x145aa223  # sw x5, 324(x21)
+    .word 0xff8a0293  # addi x5, x20, -8
     .word 0xf6029ee3  # bne x5, x0, -132
-    .word 0xfff70713  # addi x14, x14, -1
-    .word 0x00271c13  # slli x24, x14, 2
-    .word 0x002c0c33  # add x24, x24, x2
-    .word 0x00158593  # addi x11, x11, 1
-    .word 0x0085b293  # sltiu x5, x11, 8
-    .word 0xf40290e3  # bne x5, x0, -192
-    .word 0xfff58593  # addi x11, x11, -1
-    .word 0x00757813  # andi x16, x10, 7
-    .word 0x00355893  # srli x17, x10, 3
-    .word 0x411802b3  # sub x5, x16, x17
-    .word 0x01183333  # sltu x6, x16, x17
+    .word 0xff968293  # addi x5, x13, -7
+    .word 0xf4029ae3  # bne x5, x0, -172
+    .word 0x00767893  # andi x17, x12, 7
+    .word 0x00365913  # srli x18, x12, 3
+    .word 0x412882b3  # sub x5, x17, x18
+    .word 0x0128b333  # sltu x6, x17, x18
     .word 0x00900393  # addi x7, x0, 9
     .word 0x40600333  # sub x6, x0, x6
     .word 0x0063f333  # and x6, x7, x6
-    .word 0x006286b3  # add x13, x5, x6
-    .word 0x00000913  # addi x18, x0, 0
-    .word 0x0126d2b3  # srl x5, x13, x18
+    .word 0x006287b3  # add x15, x5, x6
+    .word 0xfff00993  # addi x19, x0, -1
+    .word 0x00198993  # addi x19, x19, 1
+    .word 0x0137d2b3  # srl x5, x15, x19
     .word 0x0012f293  # andi x5, x5, 1
-    .word 0x405008b3  # sub x17, x0, x5
-    .word 0x16c00313  # addi x6, x0, 364
+    .word 0x40500933  # sub x18, x0, x5
+    .word 0x16800313  # addi x6, x0, 360
     .word 0x00230333  # add x6, x6, x2
     .word 0x02400393  # addi x7, x0, 36
     .word 0x006383b3  # add x7, x7, x6
@@ -163,127 +133,110 @@ tls_mac_check_32:
     .word 0x00032023  # sw x0, 0(x6)
     .word 0x00430313  # addi x6, x6, 4
     .word 0xfedff06f  # jal x0, -20
-    .word 0x00000993  # addi x19, x0, 0
-    .word 0x00299c93  # slli x25, x19, 2
-    .word 0x002c8cb3  # add x25, x25, x2
-    .word 0x148ca283  # lw x5, 328(x25)
-    .word 0x165ca623  # sw x5, 364(x25)
-    .word 0x00198993  # addi x19, x19, 1
-    .word 0x00299c93  # slli x25, x19, 2
-    .word 0x002c8cb3  # add x25, x25, x2
-    .word 0x0099b293  # sltiu x5, x19, 9
+    .word 0xfff00a13  # addi x20, x0, -1
+    .word 0x001a0a13  # addi x20, x20, 1
+    .word 0x002a1a93  # slli x21, x20, 2
+    .word 0x002a8ab3  # add x21, x21, x2
+    .word 0x144aa283  # lw x5, 324(x21)
+    .word 0x165aa423  # sw x5, 360(x21)
+    .word 0xff8a0293  # addi x5, x20, -8
     .word 0xfe0294e3  # bne x5, x0, -24
-    .word 0xfff98993  # addi x19, x19, -1
-    .word 0x00299c93  # slli x25, x19, 2
-    .word 0x002c8cb3  # add x25, x25, x2
-    .word 0x00000a13  # addi x20, x0, 0
-    .word 0x002a1d13  # slli x26, x20, 2
-    .word 0x002d0d33  # add x26, x26, x2
+    .word 0xfff00a13  # addi x20, x0, -1
+    .word 0x001a0a13  # addi x20, x20, 1
+    .word 0x002a1a93  # slli x21, x20, 2
+    .word 0x002a8ab3  # add x21, x21, x2
     .word 0x00100313  # addi x6, x0, 1
-    .word 0x01231333  # sll x6, x6, x18
+    .word 0x01331333  # sll x6, x6, x19
     .word 0x006a02b3  # add x5, x20, x6
     .word 0x00900313  # addi x6, x0, 9
     .word 0x0262f2b3  # remu x5, x5, x6
     .word 0x00229293  # slli x5, x5, 2
     .word 0x002282b3  # add x5, x5, x2
-    .word 0x16c2a283  # lw x5, 364(x5)
-    .word 0x16cd2303  # lw x6, 364(x26)
+    .word 0x1682a283  # lw x5, 360(x5)
+    .word 0x168aa303  # lw x6, 360(x21)
     .word 0x0062c2b3  # xor x5, x5, x6
-    .word 0x0112f833  # and x16, x5, x17
-    .word 0x16cd2283  # lw x5, 364(x26)
-    .word 0x0102c2b3  # xor x5, x5, x16
-    .word 0x145d2423  # sw x5, 328(x26)
-    .word 0x001a0a13  # addi x20, x20, 1
-    .word 0x002a1d13  # slli x26, x20, 2
-    .word 0x002d0d33  # add x26, x26, x2
-    .word 0x009a3293  # sltiu x5, x20, 9
+    .word 0x0122f8b3  # and x17, x5, x18
+    .word 0x168aa283  # lw x5, 360(x21)
+    .word 0x0112c2b3  # xor x5, x5, x17
+    .word 0x145aa223  # sw x5, 324(x21)
+    .word 0xff8a0293  # addi x5, x20, -8
     .word 0xfa029ce3  # bne x5, x0, -72
-    .word 0xfffa0a13  # addi x20, x20, -1
-    .word 0x002a1d13  # slli x26, x20, 2
-    .word 0x002d0d33  # add x26, x26, x2
-    .word 0x00190913  # addi x18, x18, 1
-    .word 0x00493293  # sltiu x5, x18, 4
-    .word 0xf20296e3  # bne x5, x0, -212
-    .word 0xfff90913  # addi x18, x18, -1
-    .word 0x00000a93  # addi x21, x0, 0
-    .word 0x001af613  # andi x12, x21, 1
+    .word 0xffd98293  # addi x5, x19, -3
+    .word 0xf4029ae3  # bne x5, x0, -172
+    .word 0xfff00693  # addi x13, x0, -1
+    .word 0x00168693  # addi x13, x13, 1
+    .word 0x0016fa13  # andi x20, x13, 1
+    .word 0x002a1a93  # slli x21, x20, 2
+    .word 0x002a8ab3  # add x21, x21, x2
     .word 0x01000293  # addi x5, x0, 16
-    .word 0x00c2d7b3  # srl x15, x5, x12
-    .word 0x14412283  # lw x5, 324(x2)
+    .word 0x0142d833  # srl x16, x5, x20
     .word 0x00100313  # addi x6, x0, 1
-    .word 0x40c30333  # sub x6, x6, x12
-    .word 0x0062d2b3  # srl x5, x5, x6
+    .word 0x41430333  # sub x6, x6, x20
+    .word 0x0065d2b3  # srl x5, x11, x6
     .word 0x0012f293  # andi x5, x5, 1
-    .word 0x405008b3  # sub x17, x0, x5
-    .word 0x00000b13  # addi x22, x0, 0
-    .word 0x002b1d93  # slli x27, x22, 2
-    .word 0x002d8db3  # add x27, x27, x2
-    .word 0x148da283  # lw x5, 328(x27)
-    .word 0x00f2d2b3  # srl x5, x5, x15
-    .word 0x001b0313  # addi x6, x22, 1
+    .word 0x40500933  # sub x18, x0, x5
+    .word 0xfff00a13  # addi x20, x0, -1
+    .word 0x001a0a13  # addi x20, x20, 1
+    .word 0x002a1a93  # slli x21, x20, 2
+    .word 0x002a8ab3  # add x21, x21, x2
+    .word 0x144aa283  # lw x5, 324(x21)
+    .word 0x0102d2b3  # srl x5, x5, x16
+    .word 0x001a0313  # addi x6, x20, 1
     .word 0x00900393  # addi x7, x0, 9
     .word 0x02737333  # remu x6, x6, x7
     .word 0x00231313  # slli x6, x6, 2
     .word 0x00230333  # add x6, x6, x2
-    .word 0x14832303  # lw x6, 328(x6)
+    .word 0x14432303  # lw x6, 324(x6)
     .word 0x02000393  # addi x7, x0, 32
-    .word 0x40f383b3  # sub x7, x7, x15
+    .word 0x410383b3  # sub x7, x7, x16
     .word 0x00731333  # sll x6, x6, x7
     .word 0x0062c2b3  # xor x5, x5, x6
-    .word 0x148da303  # lw x6, 328(x27)
+    .word 0x144aa303  # lw x6, 324(x21)
     .word 0x0062c2b3  # xor x5, x5, x6
-    .word 0x0112f833  # and x16, x5, x17
-    .word 0x148da283  # lw x5, 328(x27)
-    .word 0x0102c2b3  # xor x5, x5, x16
-    .word 0x145da423  # sw x5, 328(x27)
-    .word 0x001b0b13  # addi x22, x22, 1
-    .word 0x002b1d93  # slli x27, x22, 2
-    .word 0x002d8db3  # add x27, x27, x2
-    .word 0x009b3293  # sltiu x5, x22, 9
+    .word 0x0122f8b3  # and x17, x5, x18
+    .word 0x144aa283  # lw x5, 324(x21)
+    .word 0x0112c2b3  # xor x5, x5, x17
+    .word 0x145aa223  # sw x5, 324(x21)
+    .word 0xff8a0293  # addi x5, x20, -8
     .word 0xfa0294e3  # bne x5, x0, -88
-    .word 0xfffb0b13  # addi x22, x22, -1
-    .word 0x002b1d93  # slli x27, x22, 2
-    .word 0x002d8db3  # add x27, x27, x2
-    .word 0x001a8a93  # addi x21, x21, 1
-    .word 0x002ab293  # sltiu x5, x21, 2
-    .word 0xf60290e3  # bne x5, x0, -160
-    .word 0xfffa8a93  # addi x21, x21, -1
-    .word 0x00000813  # addi x16, x0, 0
-    .word 0x00000b93  # addi x23, x0, 0
-    .word 0x002b9793  # slli x15, x23, 2
-    .word 0x002782b3  # add x5, x15, x2
+    .word 0xfff68293  # addi x5, x13, -1
+    .word 0xf60298e3  # bne x5, x0, -144
+    .word 0x00000893  # addi x17, x0, 0
+    .word 0xfff00693  # addi x13, x0, -1
+    .word 0x00168693  # addi x13, x13, 1
+    .word 0x00269a13  # slli x20, x13, 2
+    .word 0x002a1a93  # slli x21, x20, 2
+    .word 0x002a8ab3  # add x21, x21, x2
+    .word 0x002a02b3  # add x5, x20, x2
     .word 0x1242c283  # lbu x5, 292(x5)
-    .word 0x00278333  # add x6, x15, x2
+    .word 0x002a0333  # add x6, x20, x2
     .word 0x12534303  # lbu x6, 293(x6)
     .word 0x00831313  # slli x6, x6, 8
-    .word 0x0062e8b3  # or x17, x5, x6
-    .word 0x00278333  # add x6, x15, x2
+    .word 0x0062e2b3  # or x5, x5, x6
+    .word 0x002a0333  # add x6, x20, x2
     .word 0x12634303  # lbu x6, 294(x6)
     .word 0x01031313  # slli x6, x6, 16
-    .word 0x0068e2b3  # or x5, x17, x6
-    .word 0x00278333  # add x6, x15, x2
+    .word 0x0062e2b3  # or x5, x5, x6
+    .word 0x002a0333  # add x6, x20, x2
     .word 0x12734303  # lbu x6, 295(x6)
     .word 0x01831313  # slli x6, x6, 24
-    .word 0x0062e8b3  # or x17, x5, x6
-    .word 0x002b9313  # slli x6, x23, 2
+    .word 0x0062e933  # or x18, x5, x6
+    .word 0x00269313  # slli x6, x13, 2
     .word 0x00230333  # add x6, x6, x2
-    .word 0x14832303  # lw x6, 328(x6)
-    .word 0x01134333  # xor x6, x6, x17
-    .word 0x00686833  # or x16, x16, x6
-    .word 0x001b8b93  # addi x23, x23, 1
-    .word 0x008bb293  # sltiu x5, x23, 8
-    .word 0xfa0294e3  # bne x5, x0, -88
-    .word 0xfffb8b93  # addi x23, x23, -1
-    .word 0x00183293  # sltiu x5, x16, 1
-    .word 0x12012303  # lw x6, 288(x2)
-    .word 0xfff30313  # addi x6, x6, -1
+    .word 0x14432303  # lw x6, 324(x6)
+    .word 0x01234333  # xor x6, x6, x18
+    .word 0x0068e8b3  # or x17, x17, x6
+    .word 0xff968293  # addi x5, x13, -7
+    .word 0xfa0290e3  # bne x5, x0, -96
+    .word 0x0018b293  # sltiu x5, x17, 1
+    .word 0xfff50313  # addi x6, x10, -1
     .word 0x10033313  # sltiu x6, x6, 256
     .word 0x0062f2b3  # and x5, x5, x6
-    .word 0x18512823  # sw x5, 400(x2)
+    .word 0x18512623  # sw x5, 396(x2)
     # the result
-    .word 0x19012503  # lw x10, 400(x2)
+    .word 0x18c12503  # lw x10, 396(x2)
     # above the frame
-    .word 0x1b010293  # addi x5, x2, 432
+    .word 0x1a010293  # addi x5, x2, 416
     # the caller's registers
     .word 0x0002a903  # lw x18, 0(x5)
     .cfi_restore 18
@@ -293,20 +246,8 @@ tls_mac_check_32:
     .cfi_restore 20
     .word 0x00c2aa83  # lw x21, 12(x5)
     .cfi_restore 21
-    .word 0x0102ab03  # lw x22, 16(x5)
-    .cfi_restore 22
-    .word 0x0142ab83  # lw x23, 20(x5)
-    .cfi_restore 23
-    .word 0x0182ac03  # lw x24, 24(x5)
-    .cfi_restore 24
-    .word 0x01c2ac83  # lw x25, 28(x5)
-    .cfi_restore 25
-    .word 0x0202ad03  # lw x26, 32(x5)
-    .cfi_restore 26
-    .word 0x0242ad83  # lw x27, 36(x5)
-    .cfi_restore 27
     # the caller's x2
-    .word 0x03028293  # addi x5, x5, 48
+    .word 0x01028293  # addi x5, x5, 16
     .cfi_def_cfa 5, 0
     # all the room, wiped upward
     .word 0x00012023  # sw x0, 0(x2)

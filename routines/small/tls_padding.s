@@ -1,4 +1,4 @@
-# tls_padding: made by factc 1.0.0 function; 69 words, 288 bytes of stack, profile 1
+# tls_padding: made by factc 1.0.0 function; 68 words, 288 bytes of stack, profile 1
     .option push
     .option norvc
     .option norelax
@@ -38,7 +38,8 @@ tls_padding:
     .word 0x00000713  # addi x14, x0, 0
     .word 0x0ff00293  # addi x5, x0, 255
     .word 0x40d287b3  # sub x15, x5, x13
-    .word 0x00000813  # addi x16, x0, 0
+    .word 0xfff00813  # addi x16, x0, -1
+    .word 0x00180813  # addi x16, x16, 1
     .word 0x00280333  # add x6, x16, x2
     .word 0x00034303  # lbu x6, 0(x6)
     .word 0x00c34333  # xor x6, x6, x12
@@ -46,19 +47,17 @@ tls_padding:
     .word 0x00737333  # and x6, x6, x7
     .word 0x00676733  # or x14, x14, x6
     .word 0xfff78793  # addi x15, x15, -1
-    .word 0x00180813  # addi x16, x16, 1
-    .word 0x10083293  # sltiu x5, x16, 256
+    .word 0xf0180293  # addi x5, x16, -255
     .word 0xfc029ee3  # bne x5, x0, -36
-    .word 0xfff80813  # addi x16, x16, -1
     .word 0x00b532b3  # sltu x5, x10, x11
     .word 0x00000313  # addi x6, x0, 0
     .word 0x40b503b3  # sub x7, x10, x11
     .word 0x405002b3  # sub x5, x0, x5
     .word 0x00734333  # xor x6, x6, x7
     .word 0x00537333  # and x6, x6, x5
-    .word 0x0063c533  # xor x10, x7, x6
+    .word 0x0063c833  # xor x16, x7, x6
     .word 0x00173293  # sltiu x5, x14, 1
-    .word 0x00d53333  # sltu x6, x10, x13
+    .word 0x00d83333  # sltu x6, x16, x13
     .word 0x00133313  # sltiu x6, x6, 1
     .word 0x0062f2b3  # and x5, x5, x6
     .word 0x405002b3  # sub x5, x0, x5

@@ -6,7 +6,7 @@
 #define FACT_x25519_step_H
 #include <stdbool.h>
 #include <stdint.h>
-#define x25519_step_STACK_BYTES 1136
+#define x25519_step_STACK_BYTES 1040
 #ifdef __cplusplus
 extern "C" {
 #endif
