@@ -1,8 +1,9 @@
 -- An expression that joins bytes of the frame to a word has the word that lies there.
 use Rattle.std.proofs.Common.{◌≡◌, ℕ, zero, suc, ◌+◌, ◌*◌, ◌/◌, ◌%◌, ◌^◌, ◌<◌, ◌≤◌, ◌==◌, ◌&&◌, nat_lt, List, [], ◌∷◌}
 use Rattle.std.proofs.Common.{◌++◌, Bool, true, cond, Option, None, Some, slice_get, slice_index, bit_or, refl, sym, ap, ap₂}
-use Rattle.std.proofs.Common.{◌∙◌, ◌⊎◌, inl, inr, subst, arith, append_assoc, append-nil, mul_assoc, mul_comm, mul-suc, mul-le-mul_left, add-mul, mod-eq_of_lt}
-use Rattle.std.proofs.Common.{mul-lt-mul_of_pos_right, lt_of_lt_of_le, pow_pos, pow_mono, pow-add}
+use Rattle.std.proofs.Common.{◌∙◌, ◌⊎◌, inl, inr, subst, arith, append_assoc, append-nil, mul_assoc, mul_comm, mul-suc}
+use Rattle.std.proofs.Common.{mul-le-mul_left, add-mul, mod-eq_of_lt, mul-lt-mul_of_pos_right, lt_of_lt_of_le, pow_pos}
+use Rattle.std.proofs.Common.{pow_mono, pow-add}
 use Rattle.std.proofs.lemmas.Bool.{and_parts, cond_both, eqb-true}
 use Rattle.std.proofs.lemmas.Nat.{or_comm, or_shifted}
 use Rattle.std.proofs.lemmas.Option.{cond_some, none-some, same_Some}
@@ -53,7 +54,8 @@ number_joined bytes (suc n) m a x y low high =
     let scaled : 2 ^ (8 * suc n) * y ≡ 256 * (p * y) =
     ap (λ k. 2 ^ k * y) more ∙ (ap (λ k. k * y) (pow-add 2 8 (8 * n)) ∙ mul_assoc 256 p y) in
     let count : suc n + m ≡ suc (n + m) = omega arith in
-    ap (λ k. number_at bytes k a) count ∙ number_at-suc bytes (n + m) a ∙ (ap₂ joined parts.2 rest ∙ ap Some (sum_joined b r x (p * y) _ parts.4 scaled))
+    ap (λ k. number_at bytes k a) count ∙ number_at-suc bytes (n + m) a
+    ∙ (ap₂ joined parts.2 rest ∙ ap Some (sum_joined b r x (p * y) _ parts.4 scaled))
   where
     sum_joined : (b r x q t : ℕ) → b + 256 * r ≡ x → t ≡ 256 * q → b + 256 * (r + q) ≡ x + t
     sum_joined b r x q t is scaled = omega (arith, is, scaled)

@@ -56,7 +56,7 @@ frame_bytes declared allocation (binary source operator width left right) =
     (number_of right)
 frame_bytes declared allocation e = None
 
--- the offset of four bytes, which are a word there, where it is even
+-- the offset of four bytes, which are a word there, where it is a multiple of 4
 abbrev pub whole_word : Option FrameBytes → Option ℕ
 whole_word None = None
 whole_word (Some bytes) = if bytes.count == 4 && bytes.offset % 4 == 0 then Some bytes.offset else None

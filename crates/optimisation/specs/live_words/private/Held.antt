@@ -125,13 +125,13 @@ freed table held x =
 abbrev pub setting : Table → Held → ℕ → Held
 setting table held x = noted (freed table held x) x
 
+abbrev pub noted_own_where : Bool → Held → ℕ → Held
+noted_own_where own held x = if own then noted_own held x else held
+
 -- a counter is live through its loop, whose body so sets the counter's variable nowhere; it keeps its own variable but
 -- where the loop goes from a number to a number: its work does not hang on the iterations that are counted then
-abbrev pub noted_where_any : Bool → Held → ℕ → Held
-noted_where_any counted held x = if counted then noted_own held x else held
-
 abbrev pub counting : Table → Held → ℕ → Bool → Held
-counting table held x numbers = noted_where_any (not numbers) (living table held x) x
+counting table held x numbers = noted_own_where (not numbers) (living table held x) x
 
 -- Holders beside others.
 
