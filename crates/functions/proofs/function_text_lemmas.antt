@@ -1,5 +1,6 @@
 pub mod Below
 pub mod AssembledLemmas
+pub mod SharedTexts
 pub mod FunctionLemmas
 pub mod TextLaws
 pub mod WordLines

@@ -56,4 +56,6 @@ unfoldable pub use Rattle.linked_calls.specs.FunctionCode.{function_words}
 pub use Rattle.linked_calls.specs.FunctionCode.{is_open, is_skipped}
 pub use Rattle.linked_calls.specs.Sections.{argument_section}
 pub use Rattle.linked_calls.specs.Sections.{argument_sections, array_section, array_sections, code_of, enter_sections}
-pub use Rattle.linked_calls.specs.Sections.{copier_sections, frame_sections, leave_sections, section_code}
+pub use Rattle.linked_calls.specs.FunctionCode.{onward_code, shared_tail, tail_entry}
+pub use Rattle.linked_calls.specs.Sections.{copier_sections, frame_sections, last_sections, leave_sections}
+pub use Rattle.linked_calls.specs.Sections.{own_tail_sections, section_code}

@@ -19,6 +19,7 @@ mod zeroing;
 pub use pieces::wrapped;
 pub use room::{Around, above_frame, around_body, room_of};
 pub use sections::{
-    copier_sections, enter_sections, leave_sections, next_code, section_code, sections_length,
+    enter_sections, last_sections, leave_sections, next_code, section_code, sections_length,
 };
 pub use words::{body, from_body, function_words};
+pub use zeroing::wiped_room;

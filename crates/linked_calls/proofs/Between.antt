@@ -3,7 +3,7 @@
 use Rattle.hepurita.specs.Begun.{IsBegun}
 use Rattle.hepurita.specs.Needs.{Needs}
 use Rattle.std.specs.Prelude.{sum}
-use Rattle.std.proofs.Common.{◌≡◌, ℕ, suc, ◌+◌, ◌-◌, ◌*◌, ◌%◌, ◌^◌, ◌<◌, ◌≤◌, List, [], ◌∷◌, length, map, Some}
+use Rattle.std.proofs.Common.{◌≡◌, ℕ, suc, ◌+◌, ◌*◌, ◌%◌, ◌^◌, ◌<◌, ◌≤◌, List, [], ◌∷◌, length, map, Some}
 use Rattle.std.proofs.Common.{false, None}
 use Rattle.linked_calls.proofs.Below.{AreBytes, AreData, argument_offset, arguments_end, arguments_of, array_bytes}
 use Rattle.linked_calls.proofs.Below.{body_words, ByteMap, MachineCode, enter_code, enter_sections, Fields, FixedArray, Form}
@@ -14,7 +14,9 @@ use Rattle.linked_calls.proofs.Below.{Observation, observed, results_in, room_ba
 use Rattle.linked_calls.proofs.Below.{SingleWord, CallSite, Slot, State, Step}
 use Rattle.linked_calls.proofs.Bytes.{IsOutside}
 use Rattle.linked_calls.proofs.SameRegisters.{AreSame}
-use Rattle.linked_calls.specs.FunctionCode.{before_return, from_body}
+use Rattle.linked_calls.specs.Callable.{return_at}
+use Rattle.linked_calls.specs.FunctionCode.{from_body}
+use Rattle.linked_calls.specs.Sections.{onward_steps}
 use Rattle.linked_calls.specs.declared.pace.Pace.{Pace}
 
 -- where the body begins, and the code behind it
@@ -30,7 +32,8 @@ abbrev pub enter_steps : Fields → Needs → Pace → (ℕ → ℕ) → ℕ
 enter_steps image needs pace pointers = sum (map (section_steps image pace pointers) (enter_sections image needs pace))
 
 abbrev pub leave_steps : Fields → Pace → (ℕ → ℕ) → ℕ
-leave_steps image pace pointers = sum (map (section_steps image pace pointers) (leave_sections image))
+leave_steps image pace pointers =
+    sum (map (section_steps image pace pointers) (leave_sections image pace)) + onward_steps image pace
 
 -- what registers held stands in words from an address on
 abbrev pub AreSaved : ByteMap → (ℕ → ℕ) → ℕ → List ℕ → Type 0
@@ -126,7 +129,7 @@ pub record LeavesFrom (image : Fields) (needs : Needs) (pace : Pace) (code : Mac
   pub counted : suc step_count ≡ leave_steps image pace site.pointers
   pub end : State
   pub leads : LeadsWithin code (IsOfCall image site) step_count s list end
-  pub at_last : end.pc ≡ site.entry + 4 * before_return image needs pace
+  pub at_last : end.pc ≡ return_at image needs pace site
   pub left : IsLeft image site regs s.bytes (results_in (room_base image site) image s.bytes) end
   pub goes_back : regs 1 % 4 ≡ 0 → Step code end (goes_on (observed end None) (moved_to end (regs 1)))
 

@@ -69,9 +69,11 @@ inside_is_of_call image code site is sp (Some event) at inside = tt
 steps_around : (image : Fields) (needs : Needs) (pace : Pace) (pointers : ℕ → ℕ)
     → around_steps image needs pace pointers ≡ enter_steps image needs pace pointers + leave_steps image pace pointers
 steps_around image needs pace pointers =
-    ap sum (map-append (section_steps image pace pointers) (enter_sections image needs pace) (leave_sections image))
+    let both =
+    ap sum (map-append (section_steps image pace pointers) (enter_sections image needs pace) (leave_sections image pace))
     ∙ sum_by-append (λ x. x) (map (section_steps image pace pointers) (enter_sections image needs pace))
-    (map (section_steps image pace pointers) (leave_sections image))
+    (map (section_steps image pace pointers) (leave_sections image pace)) in
+    omega (arith, both)
 
 steps_counted : (enter body leave around : ℕ) (rest : ℕ) → around ≡ enter + leave → suc rest ≡ leave
     → suc (enter + (body + rest)) ≡ around + body

@@ -1,8 +1,8 @@
 -- What stands in the slots where the body begins: the arguments, but that a slot which is skipped holds some numbers of
 -- its kind. So it is within the parameters' types, and agrees with the arguments but where they are spared.
 use Rattle.std.specs.Prelude.{slice_get, unwrap_or}
-use Rattle.std.proofs.Common.{◌≡◌, ℕ, zero, suc, ◌+◌, ◌≤◌, ◌&&◌, Bool, true, false, List, [], ◌∷◌, map, All}
-use Rattle.std.proofs.Common.{if◌then◌else◌, Some, refl, sym, ap, ap₂, ◌∙◌, arith}
+use Rattle.std.proofs.Common.{◌≡◌, ℕ, suc, ◌+◌, ◌≤◌, ◌&&◌, Bool, true, false, List, [], ◌∷◌, map, All}
+use Rattle.std.proofs.Common.{refl, sym, ap, ◌∙◌, arith}
 use Rattle.std.proofs.lemmas.List.{length-map}
 use Rattle.linked_calls.proofs.Below.{argument_of, arguments_from, ByteMap, CallSite, element_bytes, Fields, FixedArray}
 use Rattle.linked_calls.proofs.Below.{elements_at, Form, meant, MutableArray, room_base, SingleWord, Slot, State}

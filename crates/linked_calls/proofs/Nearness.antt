@@ -6,7 +6,7 @@ use Rattle.codegen.proofs.expression_code_lemmas.TermLengths.{constant_length, l
 use Rattle.linked_calls.proofs.Below.{address_code, argument_code, argument_register, arguments_code, body_words, Boolean}
 use Rattle.linked_calls.proofs.Below.{copied_code, copy_out_code, Fields, FixedArray, Form, Instr, Kind}
 use Rattle.linked_calls.proofs.Below.{kept_of, leave_code, load_code, meant_code, MutableArray}
-use Rattle.linked_calls.proofs.Below.{result_code, results_code, ResultSlot, room_of, saved_registers}
+use Rattle.linked_calls.proofs.Below.{restore_code, result_code, results_code, ResultSlot, room_of, saved_registers}
 use Rattle.linked_calls.proofs.Below.{SingleWord, Slot, stacked_offset, Uint16, Uint32}
 use Rattle.linked_calls.proofs.Below.{Uint8, until_equal, up_code, wipe_code}
 use Rattle.linked_calls.proofs.CopyElements.{element_code}
@@ -129,12 +129,17 @@ body_few [] = omega arith
 body_few (word ∷ []) = omega arith
 body_few (word ∷ next ∷ words) = let few = body_few (next ∷ words) in omega arith
 
-pub end_short : (image : Fields) (pace : Pace) → length (end_code image pace) ≤ 64
-end_short image pace =
-    let wiped = wiped_short (room_of image) in
+restored_short : (image : Fields) → length (restore_code image) ≤ 16
+restored_short image =
     let kept = written_few (body_words image.words) saved_registers in
     let loaded = loads_length 5 0 (kept_of image) in
     omega (arith, address_short 5, length-append {A = Instr})
+
+pub end_short : (image : Fields) (pace : Pace) → length (end_code image pace) ≤ 64
+end_short image Fast =
+    let wiped = wiped_short (room_of image) in
+    omega (arith, restored_short image, length-append {A = Instr})
+end_short image Small = omega (arith, restored_short image)
 
 result_short : (returned : Option ResultSlot) → length (result_code returned) ≤ 3
 result_short None = omega arith

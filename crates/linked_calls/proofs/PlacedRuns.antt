@@ -9,6 +9,7 @@ use Rattle.codegen.specs.program_logic.Pieces as logic
 use Rattle.codegen.specs.program_logic.Pieces.{none}
 use Rattle.codegen.specs.program_logic.StraightCode.{contents_of}
 use Rattle.linked_calls.proofs.Below.{AreThere, at, Data, Does, Instr, LeadsWithin, MachineCode, Observation, Placed}
+use Rattle.linked_calls.proofs.Below.{State}
 use Rattle.linked_calls.specs.Copies.{CopierStands}
 use Rattle.linked_calls.specs.FunctionCode.{copier_code}
 use Rattle.linked_calls.specs.declared.round.Round.{Round}
@@ -16,6 +17,18 @@ use Rattle.linked_calls.specs.declared.round.Round.{Round}
 pub record RunsHere (z : Setting) (p n : ℕ) (is : List Instr) (P : Data → Type 0) (R : Data → Data → Type 0) : Type 0 where
   pub piece : logic.RunsAt exactly (setting z) p n none is (λ env s. P (contents_of s))
       (λ env s t. R (contents_of s) (contents_of t))
+
+-- from an address to another, by whatever stands there
+pub record RunsTo (z : Setting) (p q n : ℕ) (P : Data → Type 0) (R : Data → Data → Type 0) : Type 0 where
+  pub leak : logic.Leak (setting z)
+  pub runs : (s : State) (rest : List ⊥) → s.pc ≡ p → P (contents_of s)
+      → logic.Ends exactly (setting z) n q leak rest rest (λ t. R (contents_of s) (contents_of t)) s
+
+-- so many steps from one address to another, which show this list
+pub record Gone (z : Setting) (p q n : ℕ) (list : List Observation) (R : Data → Data → Type 0) (s : Data) : Type 0 where
+  pub end : Data
+  pub leads : LeadsWithin z.code z.allowed n (at p s) list (at q end)
+  pub done : R s end
 
 -- a copier that stands behind two pieces of code stands behind the first of them, and so behind where the second begins
 pub behind_first : (code : MachineCode) (p : ℕ) (xs ys : List Instr) (behind : ℕ) (copier : Option Round)
@@ -69,21 +82,50 @@ module _ (z : Setting) where
       → RunsHere z p m is P R → RunsHere z p n is P R
   counted_here {p = p} {is = is} {P = P} {R = R} counts one = subst (λ k. RunsHere z p k is P R) counts one
 
-  -- what such a piece shows is read off no path, so it is one list
+  -- up to where its instructions end
+  pub to_end : {p n : ℕ} {is : List Instr} {P : Data → Type 0} {R : Data → Data → Type 0}
+      → RunsHere z p n is P R → RunsTo z p (p + 4 * length is) n P R
+  to_end one = record {
+    leak = one.piece.leak;
+    runs = λ s rest at given. one.piece.runs tt s rest at tt given;
+  }
+
+  -- and from there on
+  pub then_to : {p q r m n : ℕ} {P P' : Data → Type 0} {R R' S : Data → Data → Type 0}
+      → RunsTo z p q m P R → RunsTo z q r n P' R'
+      → ((s t : Data) → P s → R s t → P' t) → ((s t u : Data) → P s → R s t → R' t u → S s u)
+      → RunsTo z p r (m + n) P S
+  then_to one two link both = record {
+    leak = logic.both one.leak two.leak;
+    runs = λ s rest at given.
+        then_ends (one.runs s rest at given)
+        (λ t there done.
+        ends_to (two.runs t rest there (link (contents_of s) (contents_of t) given done)) refl
+        (λ u more. both (contents_of s) (contents_of t) (contents_of u) given done more));
+  }
+
+  -- what is shown is read off no path, so it is one list
+  pub goes : {p q n : ℕ} {P : Data → Type 0} {R : Data → Data → Type 0} (one : RunsTo z p q n P R) (s : Data) → P s
+      → Gone z p q n (one.leak []).0 R s
+  goes {p = p} {q = q} {n = n} one s given =
+      let run = one.runs (at p s) [] refl given in
+      let end = contents_of run.end in
+      let same : run.seen ≡ (one.leak []).0 = sym (ap (λ (r : List Observation × List ⊥). r.0) run.shown) in
+      record {
+        end = end;
+        leads =
+            subst (λ x. LeadsWithin z.code z.allowed n (at p s) (one.leak []).0 (at x end)) run.at
+            (subst (λ list. LeadsWithin z.code z.allowed n (at p s) list run.end) same
+            (subst (λ k. LeadsWithin z.code z.allowed k (at p s) run.seen run.end) run.within run.leads));
+        done = run.done;
+      }
+
   pub does_here : {start n : ℕ} {is : List Instr} {P : Data → Type 0} {R : Data → Data → Type 0}
       → RunsHere z start n is P R → Does z.code start is n z.allowed P R
-  does_here {start = start} {n = n} {is = is} one = record {
+  unfolding to_end
+  does_here one = record {
     shown = (one.piece.leak []).0;
     runs = λ s given.
-        let run = one.piece.runs tt (at start s) [] refl tt given in
-        let end = contents_of run.end in
-        let same : run.seen ≡ (one.piece.leak []).0 = sym (ap (λ (r : List Observation × List ⊥). r.0) run.shown) in
-        record {
-          end = end;
-          leads =
-              subst (λ q. LeadsWithin z.code z.allowed n (at start s) (one.piece.leak []).0 (at q end)) run.at
-              (subst (λ list. LeadsWithin z.code z.allowed n (at start s) list run.end) same
-              (subst (λ k. LeadsWithin z.code z.allowed k (at start s) run.seen run.end) run.within run.leads));
-          done = run.done;
-        };
+        let gone = goes (to_end one) s given in
+        record { end = gone.end; leads = gone.leads; done = gone.done };
   }

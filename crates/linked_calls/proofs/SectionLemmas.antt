@@ -5,21 +5,23 @@ use Rattle.std.proofs.Common.{◌≡◌, ℕ, ◌+◌, ◌==◌, Bool, true, fal
 use Rattle.std.proofs.Common.{◌∙◌, ap₂, arith, if◌then◌else◌, length-append, Option, Some, None}
 use Rattle.std.proofs.lemmas.List.{append_assoc, append-nil}
 use Rattle.linked_calls.proofs.Below.{argument_sections, arguments_code, array_section, array_sections}
-use Rattle.linked_calls.proofs.Below.{body_words, CallersStack, ClearedFrame, ClearedRegisters, code_of}
+use Rattle.linked_calls.proofs.Below.{body_words, CallersStack, ClearedFrame, code_of}
 use Rattle.linked_calls.proofs.Below.{constant_code, copy_out_code, down_code, enter_code, enter_sections, Fields, Form}
 use Rattle.linked_calls.specs.FunctionCode.{are_few, blank_code, blanks_code, frame_code, lowered_code, partly_code}
 use Rattle.linked_calls.specs.FunctionCode.{argument_code, copier_end, copier_of, end_code, from_body}
-use Rattle.linked_calls.specs.FunctionCode.{is_skipped, zeroed_code}
-use Rattle.linked_calls.specs.Sections.{argument_section, copier_sections, partly_sections, section_code, zeroed_sections}
+use Rattle.linked_calls.specs.FunctionCode.{is_skipped, last_code, zeroed_code}
+use Rattle.linked_calls.specs.Sections.{argument_section, copier_sections, last_sections, own_tail_sections}
+use Rattle.linked_calls.specs.Sections.{partly_sections, section_code, zeroed_sections}
 use Rattle.linked_calls.specs.declared.section.Section.TheVariants.{ArgumentIn, ArrayOut, BlankWord, Copier}
 use Rattle.linked_calls.specs.declared.section.Section.TheVariants.{LoweredStack}
 use Rattle.linked_calls.proofs.Below.{frame_room, frame_sections, FrameBase, FrameTop, function_words, Instr}
 use Rattle.linked_calls.proofs.Below.{leave_code, leave_sections, MutableArray, Register, RestoredRegisters}
-use Rattle.linked_calls.proofs.Below.{results_code, Return, Section, Slot, stack_register, Sub, until_equal}
+use Rattle.linked_calls.proofs.Below.{results_code, Section, Slot, stack_register, Sub, until_equal}
 use Rattle.linked_calls.proofs.Below.{above_frame, added, address_code, clear_registers_code, JumpRegister, kept_of, loads_code}
-use Rattle.linked_calls.proofs.Below.{result_code, room_of, scratch_registers, wipe_code, WipedRoom}
+use Rattle.linked_calls.proofs.Below.{result_code, room_of, scratch_registers, wipe_code}
 use Rattle.linked_calls.specs.Below.{word_of}
 use Rattle.linked_calls.specs.declared.pace.Pace.{Pace}
+use Rattle.linked_calls.specs.declared.pace.Pace.TheVariants.{Fast, Small}
 use Rattle.linked_calls.specs.declared.round.Round.{Round}
 
 code_of_both : (image : Fields) (pace : Pace) (behind : ℕ) (one other : List Section)
@@ -130,56 +132,67 @@ arrays_code_of image pace behind i (slot ∷ slots) =
     ∙ ap (λ (one : List Instr). one ++ results_code image pace behind (i + 1) slots)
     (array_code_of image pace (length (results_code image pace behind (i + 1) slots) + behind) i slot slot.param.form refl)
 
-abbrev tail : List Section
-tail = FrameTop ∷ RestoredRegisters ∷ CallersStack ∷ WipedRoom ∷ ClearedRegisters ∷ Return ∷ []
+abbrev end_sections : Pace → List Section
+end_sections pace = FrameTop ∷ RestoredRegisters ∷ CallersStack ∷ own_tail_sections pace
 
-tail_grouped : (a l y w k j : List Instr) → a ++ (l ++ (y ++ (w ++ (k ++ j)))) ≡ (a ++ l ++ y) ++ w ++ k ++ j
+tail_grouped : (a l y w k j : List Instr) → a ++ (l ++ (y ++ (w ++ (k ++ j)))) ≡ (a ++ l ++ y) ++ (w ++ k ++ j)
 tail_grouped a l y w k j = simp append_assoc
 
-tail_code_of : (image : Fields) (pace : Pace) → code_of image pace 0 tail ≡ end_code image pace
-tail_code_of image pace =
+end_grouped : (a l y : List Instr) → a ++ (l ++ (y ++ [])) ≡ a ++ l ++ y
+end_grouped a l y = simp (append_assoc, append-nil {A = Instr})
+
+end_code_of : (image : Fields) (pace : Pace) → code_of image pace 0 (end_sections pace) ≡ end_code image pace
+end_code_of image Fast =
     tail_grouped (address_code 5 (frame_room image)) (loads_code 5 0 (kept_of image)) (added 5 (above_frame image) ∷ [])
     (wipe_code (room_of image)) (clear_registers_code scratch_registers) (JumpRegister 0 1 0 ∷ [])
+end_code_of image Small =
+    end_grouped (address_code 5 (frame_room image)) (loads_code 5 0 (kept_of image)) (added 5 (above_frame image) ∷ [])
 
 leave_grouped : (r rs e : List Instr) → r ++ (rs ++ e) ≡ r ++ rs ++ e
 leave_grouped r rs e = simp append_assoc
 
-pub leave_code_of : (image : Fields) (pace : Pace) → code_of image pace 0 (leave_sections image) ≡ leave_code image pace
+pub leave_code_of : (image : Fields) (pace : Pace)
+    → code_of image pace 0 (leave_sections image pace) ≡ leave_code image pace
 leave_code_of image pace =
     let end = end_code image pace in
     let none : length end + 0 ≡ length end = omega arith in
     ap (λ (xs : List Instr). result_code image.returned ++ xs)
-    (code_of_both image pace 0 (array_sections 0 image.slots) tail
+    (code_of_both image pace 0 (array_sections 0 image.slots) (end_sections pace)
     ∙ ap (λ (rest : List Instr). code_of image pace (length rest + 0) (array_sections 0 image.slots) ++ rest)
-    (tail_code_of image pace)
+    (end_code_of image pace)
     ∙ ap (λ (one : List Instr). one ++ end)
     (arrays_code_of image pace (length end + 0) 0 image.slots
     ∙ ap (λ n. results_code image pace n 0 image.slots) none))
     ∙ leave_grouped (result_code image.returned) (results_code image pace (length end) 0 image.slots) end
 
--- The copier.
+-- The last.
 
-pub copier_code_of : (image : Fields) (pace : Pace) (copier : Option Round)
+copier_code_of : (image : Fields) (pace : Pace) (copier : Option Round)
     → code_of image pace 0 (copier_sections copier) ≡ copier_end copier
 copier_code_of image pace None = refl
 copier_code_of image pace (Some round) = alone_code_of image pace 0 (Copier round)
+
+pub last_code_of : (image : Fields) (pace : Pace)
+    → code_of image pace 0 (last_sections image pace) ≡ last_code image pace 0
+last_code_of image Fast = copier_code_of image Fast (copier_of image Fast)
+last_code_of image Small = refl
 
 -- The function.
 
 pub words_of_sections : (image : Fields) (needs : Needs) (pace : Pace)
     → map word_of (code_of image pace
-    (length (body_words image.words) + length (code_of image pace 0 (leave_sections image)))
+    (length (body_words image.words) + length (code_of image pace 0 (leave_sections image pace)))
     (enter_sections image needs pace))
     ++ body_words image.words
-    ++ map word_of (code_of image pace 0 (leave_sections image))
-    ++ map word_of (code_of image pace 0 (copier_sections (copier_of image pace)))
-    ≡ function_words image needs pace
+    ++ map word_of (code_of image pace 0 (leave_sections image pace))
+    ++ map word_of (code_of image pace 0 (last_sections image pace))
+    ≡ function_words image needs pace 0
 unfolding function_words
 words_of_sections image needs pace =
-    ap₂ (λ (after copier : List Instr).
+    ap₂ (λ (after last : List Instr).
     map word_of (code_of image pace (length (body_words image.words) + length after) (enter_sections image needs pace))
-    ++ body_words image.words ++ map word_of after ++ map word_of copier)
-    (leave_code_of image pace) (copier_code_of image pace (copier_of image pace))
+    ++ body_words image.words ++ map word_of after ++ map word_of last)
+    (leave_code_of image pace) (last_code_of image pace)
     ∙ ap (λ (before : List Instr). map word_of before ++ body_words image.words ++ map word_of (leave_code image pace)
-    ++ map word_of (copier_end (copier_of image pace)))
+    ++ map word_of (last_code image pace 0))
     (enter_code_of image needs pace (from_body image pace))

@@ -4,27 +4,42 @@ use Rattle.std.proofs.Common.{◌≡◌, ℕ, ◌+◌, ◌==◌, Bool, true, fal
 use Rattle.std.proofs.Common.{refl, sym, ap, ap₂, ◌∙◌, arith, length-append, map, Some, None}
 use Rattle.std.proofs.lemmas.List.Sums.{sum_by-cons, sum_by-append, sum-map}
 use Rattle.linked_calls.proofs.Below.{above_code, address_code, argument_sections, first_argument, argument_steps, ArgumentIn, array_section, array_sections}
-use Rattle.linked_calls.proofs.Below.{handed_steps, CallersStack, ClearedFrame, ClearedRegisters}
+use Rattle.linked_calls.proofs.Below.{handed_steps, CallersStack, ClearedFrame}
 use Rattle.linked_calls.proofs.Below.{constant_code, Fields, FixedArray, Form, frame_room, frame_sections, frame_steps}
 use Rattle.linked_calls.proofs.Below.{FrameBase, FrameTop, leave_sections, MutableArray, Register, RestoredRegisters}
-use Rattle.linked_calls.proofs.Below.{result_code, ResultOut, Return, room_of, blocks_steps, Section, section_steps, SingleWord, Slot}
-use Rattle.linked_calls.proofs.Below.{Sub, WipedRoom}
+use Rattle.linked_calls.proofs.Below.{result_code, ResultOut, room_of, blocks_steps, Section, section_steps, SingleWord, Slot}
+use Rattle.linked_calls.proofs.Below.{Sub}
 use Rattle.linked_calls.specs.declared.section.Section.TheVariants.{RoomAboveFrame, SavedRegisters, ArgumentRegisters}
 use Rattle.linked_calls.proofs.Below.{above_frame, kept_of, needed_of}
 use Rattle.linked_calls.proofs.Between.{enter_steps, leave_steps}
 use Rattle.linked_calls.proofs.Parts.{loads_length, stores_length}
 use Rattle.linked_calls.specs.FunctionCode.{are_few, blanks_code, is_skipped, lowered_code, partly_code}
-use Rattle.linked_calls.specs.Sections.{argument_section, partly_sections, zeroed_sections}
+use Rattle.linked_calls.specs.Sections.{argument_section, onward_steps, own_tail_sections, partly_sections}
+use Rattle.linked_calls.specs.Sections.{zeroed_sections}
 use Rattle.linked_calls.specs.declared.section.Section.TheVariants.{BlankWord, LoweredStack}
 use Rattle.hepurita.specs.Blank.{Blank}
 use Rattle.hepurita.specs.Needs.{Needs}
 use Rattle.linked_calls.specs.declared.pace.Pace.{Pace}
+use Rattle.linked_calls.specs.declared.pace.Pace.TheVariants.{Fast, Small}
 
 -- of a frame in which the words that have to be are zeroed
 abbrev pub steps_for : Pace → ℕ → Blank → ℕ
 steps_for pace room None = frame_steps room
 steps_for pace room (Some offsets) =
     if are_few pace room offsets then length (partly_code room offsets) else frame_steps room
+
+-- behind the body: the registers restored
+abbrev pub restored_steps : Fields → ℕ
+restored_steps image = length (address_code 5 (frame_room image)) + length (kept_of image) + 1
+
+-- the room wiped and the others cleared, but for the way back
+abbrev pub cleared_steps : Fields → ℕ
+cleared_steps image = blocks_steps (room_of image) + 14
+
+-- on to the shared tail
+abbrev pub jump_steps : Pace → ℕ
+jump_steps Fast = 0
+jump_steps Small = 1
 
 module _ (image : Fields) (pace : Pace) (pointers : ℕ → ℕ) where
   abbrev steps_of : List Section → ℕ
@@ -141,21 +156,22 @@ module _ (image : Fields) (pace : Pace) (pointers : ℕ → ℕ) where
       sum_by-append (section_steps image pace pointers) (array_section i slot slot.param.form) (array_sections (i + 1) slots)
       ∙ ap₂ (λ m n. m + n) (array_steps_are i slot slot.param.form) (arrays_steps_are (i + 1) slots)
 
-  abbrev lasts : List Section
-  lasts = FrameTop ∷ RestoredRegisters ∷ CallersStack ∷ WipedRoom ∷ ClearedRegisters ∷ Return ∷ []
+  abbrev lasts : Pace → List Section
+  lasts pace = FrameTop ∷ RestoredRegisters ∷ CallersStack ∷ own_tail_sections pace
 
-  -- the registers restored and cleared, and the room wiped
-  abbrev pub last_steps : ℕ
-  last_steps = length (address_code 5 room) + blocks_steps (room_of image)
-      + (length (kept_of image) + 16)
+  lasts_steps : (pace' : Pace)
+      → steps_of (lasts pace') + onward_steps image pace' ≡ restored_steps image + (jump_steps pace' + cleared_steps image) + 1
+  lasts_steps Fast = let kept = loads_length 5 0 (kept_of image) in omega arith
+  lasts_steps Small = let kept = loads_length 5 0 (kept_of image) in omega arith
 
   pub leave_steps_are : leave_steps image pace pointers ≡ length (result_code image.returned) +
-      (outputs_steps 0 image.slots + last_steps)
+      (outputs_steps 0 image.slots + (restored_steps image + (jump_steps pace + cleared_steps image) + 1))
   leave_steps_are =
-      let kept = loads_length 5 0 (kept_of image) in
-      let counted : steps_of lasts ≡ last_steps = omega arith in
-      sum-map (section_steps image pace pointers) (leave_sections image)
-      ∙ sum_by-cons (section_steps image pace pointers) ResultOut (array_sections 0 image.slots ++ lasts)
+      let counted = lasts_steps pace in
+      let all =
+      sum-map (section_steps image pace pointers) (leave_sections image pace)
+      ∙ sum_by-cons (section_steps image pace pointers) ResultOut (array_sections 0 image.slots ++ lasts pace)
       ∙ ap (λ n. length (result_code image.returned) + n)
-      (sum_by-append (section_steps image pace pointers) (array_sections 0 image.slots) lasts
-      ∙ ap₂ (λ m n. m + n) (arrays_steps_are 0 image.slots) counted)
+      (sum_by-append (section_steps image pace pointers) (array_sections 0 image.slots) (lasts pace)
+      ∙ ap (λ n. n + steps_of (lasts pace)) (arrays_steps_are 0 image.slots)) in
+      omega (arith, counted, all)

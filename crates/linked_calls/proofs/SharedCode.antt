@@ -1,6 +1,6 @@
 -- A call of code that other code of the function shares: a jump there that leaves in x30 where it goes back to, and a jump
 -- back at its end.
-use Rattle.std.proofs.Common.{◌≡◌, ℕ, ◌+◌, ◌*◌, ◌%◌, ◌^◌, ◌<◌, Bool, true, false, cond, List, [], ◌∷◌, ◌++◌}
+use Rattle.std.proofs.Common.{◌≡◌, ℕ, ◌+◌, ◌-◌, ◌*◌, ◌/◌, ◌%◌, ◌^◌, ◌<◌, Bool, true, false, cond, List, [], ◌∷◌, ◌++◌}
 use Rattle.std.proofs.Common.{length, None, refl, sym, ap, ap₂, ◌∙◌, subst, arith}
 use Rattle.std.proofs.Math.Path.{fun_ext}
 use Rattle.std.proofs.lemmas.Bool.Decides.{nat_tests}
@@ -13,8 +13,10 @@ use Rattle.codegen.specs.program_logic.Pieces.{always, both, Ends}
 use Rattle.codegen.specs.program_logic.StraightCode.{contents_of}
 use Rattle.linked_calls.proofs.Below.{ByteMap, Data, Instr, JumpRegister, near_address, next, Placed, register_target}
 use Rattle.linked_calls.proofs.Below.{sign_extended, State, sum_of, with_link, with_register, with_result}
-use Rattle.linked_calls.proofs.PlacedRuns.{RunsHere}
-use Rattle.linked_calls.specs.FunctionCode.{call_code}
+use Rattle.linked_calls.proofs.PlacedRuns.{RunsHere, RunsTo}
+use Rattle.linked_calls.specs.Below.{Jump}
+use Rattle.linked_calls.specs.Calls.{Reaches}
+use Rattle.linked_calls.specs.FunctionCode.{call_code, onward_code}
 use Rattle.rv_machine.proofs.InstructionSteps.{jump_leads, jump_register_leads, with_link-bytes, with_link-pc, with_link-regs}
 use Rattle.rv_machine.specs.Effects.{jump_target}
 
@@ -22,6 +24,11 @@ use Rattle.rv_machine.specs.Effects.{jump_target}
 forward : (p count : ℕ) → 2 * count + 2 < 2 ^ 19 → p + 4 + 4 * count < 2 ^ 32
     → jump_target p (2 * count + 2) ≡ p + 4 + 4 * count
 forward p count near below = grind (arith, nat_tests)
+
+-- a jump to what stands within reach, before it or behind it
+within_reach : (from to : ℕ) → Reaches from to → from % 4 ≡ 0 → to % 4 ≡ 0 → from < 2 ^ 32 → to < 2 ^ 32
+    → jump_target from ((to + 2 ^ 32 - from) % 2 ^ 32 / 2 % 2 ^ 20) ≡ to
+within_reach from to reaches even even' below below' = grind (arith, nat_tests, reaches.0, reaches.1)
 
 -- a link that is put into x0 is none
 either : (b : Bool) (v x : ℕ) → cond b x (cond b v x) ≡ x
@@ -78,6 +85,28 @@ module _ (z : Setting) where
       (same_contents s.regs s.bytes t
       (with_link-regs s 0 (register_target s.regs 30 0) ∙ dropped s.regs (next s))
       (with_link-bytes s 0 (register_target s.regs 30 0)))
+
+  -- on to code that stands within reach
+  pub onward_runs : {P : Data → Type 0} (from to : ℕ) → Reaches from to
+      → Placed z.code from (onward_code ((to + 2 ^ 32 - from) % 2 ^ 32) ∷ []) → to % 4 ≡ 0 → to < 2 ^ 32
+      → RunsTo z from to 1 P (λ s t. t ≡ s)
+  onward_runs from to reaches placed even below =
+      let halves = (to + 2 ^ 32 - from) % 2 ^ 32 / 2 % 2 ^ 20 in
+      let there = within_reach from to reaches placed.0 even (omega (arith, placed.1)) below in
+      record {
+        leak = always (shown_at from);
+        runs = λ s rest at given.
+            let here : jump_target s.pc halves ≡ to = ap (λ p. jump_target p halves) at ∙ there in
+            let t = with_link s 0 (jump_target s.pc halves) in
+            step_ends None None t at
+            (jump_leads z.code s 0 halves
+            (stands z.code from (Jump 0 halves) [] placed (omega arith, omega arith) s at)
+            (ap (λ q. q % 4) here ∙ even)) refl (z.silent (s.regs 2)) refl
+            (with_link-pc s 0 (jump_target s.pc halves) ∙ here)
+            (same_contents s.regs s.bytes t
+            (with_link-regs s 0 (jump_target s.pc halves) ∙ dropped s.regs (next s))
+            (with_link-bytes s 0 (jump_target s.pc halves)));
+      }
 
   -- the shared code stands so many instructions behind the call
   pub call_runs : {n : ℕ} {body : List Instr} {P P' : Data → Type 0} {R S : Data → Data → Type 0} (p count : ℕ)

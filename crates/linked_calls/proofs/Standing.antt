@@ -11,8 +11,10 @@ use Rattle.linked_calls.specs.Below.{word_of}
 use Rattle.linked_calls.proofs.Nearness.{arguments_short, body_few, is_near_where, leave_short}
 use Rattle.linked_calls.proofs.Pieces.{placed}
 use Rattle.linked_calls.specs.Copies.{CopierStands}
-use Rattle.linked_calls.specs.FunctionCode.{copier_code, copier_end, copier_of, end_code, from_body}
+use Rattle.linked_calls.specs.Calls.{tail_ahead}
+use Rattle.linked_calls.specs.FunctionCode.{copier_code, copier_end, copier_of, end_code, from_body, last_code}
 use Rattle.linked_calls.specs.declared.pace.Pace.{Pace}
+use Rattle.linked_calls.specs.declared.pace.Pace.TheVariants.{Fast, Small}
 use Rattle.linked_calls.specs.declared.round.Round.{Round}
 
 -- Words, one list after another.
@@ -41,23 +43,32 @@ enter_words image needs pace = map word_of (entering_code image needs pace)
 abbrev leave_words : Fields → Pace → List ℕ
 leave_words image pace = map word_of (leave_code image pace)
 
-abbrev copier_words : Fields → Pace → List ℕ
-copier_words image pace = map word_of (copier_end (copier_of image pace))
+abbrev last_words : Fields → Pace → ℕ → List ℕ
+last_words image pace ahead = map word_of (last_code image pace ahead)
 
-words_are : (image : Fields) (needs : Needs) (pace : Pace)
-    → function_words image needs pace
-    ≡ enter_words image needs pace ++ body_words image.words ++ leave_words image pace ++ copier_words image pace
+words_are : (image : Fields) (needs : Needs) (pace : Pace) (ahead : ℕ)
+    → function_words image needs pace ahead
+    ≡ enter_words image needs pace ++ body_words image.words ++ leave_words image pace ++ last_words image pace ahead
 unfolding function_words
-words_are image needs pace = refl
+words_are image needs pace ahead = refl
+
+-- at a small pace there is no copier
+copier_of_last : (image : Fields) (pace : Pace) (code : MachineCode) (q ahead : ℕ)
+    → AreThere code q (last_code image pace ahead) → AreThere code q (copier_end (copier_of image pace))
+copier_of_last image Fast code q ahead there = there
+copier_of_last image Small code q ahead there = tt
 
 module _ (image : Fields) {needs : Needs} {pace : Pace} (code : MachineCode) (site : CallSite) (is : IsSite image needs pace code site) where
+  abbrev pub ahead : ℕ
+  ahead = tail_ahead image needs pace site
+
   all_stand : Stand code site.entry
-      (enter_words image needs pace ++ body_words image.words ++ leave_words image pace ++ copier_words image pace)
-  all_stand = subst (λ words. Stand code site.entry words) (words_are image needs pace) is.words
+      (enter_words image needs pace ++ body_words image.words ++ leave_words image pace ++ last_words image pace ahead)
+  all_stand = subst (λ words. Stand code site.entry words) (words_are image needs pace ahead) is.words
 
   left_stands : Stand code site.entry (enter_words image needs pace ++ body_words image.words ++ leave_words image pace)
   left_stands = stand_first code site.entry
-      (enter_words image needs pace ++ body_words image.words ++ leave_words image pace) (copier_words image pace) all_stand
+      (enter_words image needs pace ++ body_words image.words ++ leave_words image pace) (last_words image pace ahead) all_stand
 
   entered_stands : Stand code site.entry (enter_words image needs pace ++ body_words image.words)
   entered_stands = stand_first code site.entry (enter_words image needs pace ++ body_words image.words)
@@ -84,20 +95,30 @@ module _ (image : Fields) {needs : Needs} {pace : Pace} (code : MachineCode) (si
       (subst (λ q. Stand code q (leave_words image pace)) to_leave
       (stand_then code site.entry (enter_words image needs pace ++ body_words image.words) (leave_words image pace) left_stands))
 
-  to_copier : site.entry + 4 * length (enter_words image needs pace ++ body_words image.words ++ leave_words image pace)
+  to_last : site.entry + 4 * length (enter_words image needs pace ++ body_words image.words ++ leave_words image pace)
       ≡ leave_at image needs pace site + 4 * length (leave_code image pace)
-  to_copier =
+  to_last =
       let a = length-append (enter_words image needs pace ++ body_words image.words) (leave_words image pace) in
       let b = length-map (leave_code image pace) word_of in
       let c = to_leave in
       omega arith
 
+  last_stands : AreThere code (leave_at image needs pace site + 4 * length (leave_code image pace))
+      (last_code image pace ahead)
+  last_stands =
+      subst (λ q. Stand code q (last_words image pace ahead)) to_last
+      (stand_then code site.entry (enter_words image needs pace ++ body_words image.words ++ leave_words image pace)
+      (last_words image pace ahead) all_stand)
+
+  pub last_placed : Placed code (leave_at image needs pace site + 4 * length (leave_code image pace))
+      (last_code image pace ahead)
+  last_placed = placed code (leave_at image needs pace site + 4 * length (leave_code image pace))
+      (last_code image pace ahead) last_stands
+
   copier_stands : AreThere code (leave_at image needs pace site + 4 * length (leave_code image pace))
       (copier_end (copier_of image pace))
-  copier_stands =
-      subst (λ q. Stand code q (copier_words image pace)) to_copier
-      (stand_then code site.entry (enter_words image needs pace ++ body_words image.words ++ leave_words image pace)
-      (copier_words image pace) all_stand)
+  copier_stands = copier_of_last image pace code (leave_at image needs pace site + 4 * length (leave_code image pace)) ahead
+      last_stands
 
   -- from an address on, so many instructions before the copier
   copier_behind : (copier : Option Round) → copier_of image pace ≡ copier → (p behind : ℕ)

@@ -1,8 +1,9 @@
 -- The function that adds one to its argument, as it is worked out by hand: 30 words, and 26 steps around the 4 of its
--- body, at either pace.
+-- body. At a small pace it has 10 words, and a step more: 21 words are those of the tail that functions share.
 use Rattle.std.proofs.Common.{◌≡◌, ℕ, false, [], ◌∷◌, length, Some, refl}
 use Rattle.hepurita.specs.Needs.{Needs}
 use Rattle.linked_calls.proofs.Below.{around_steps, Fields, function_words, P1, room_of, Secret, SingleWord, Uint32}
+use Rattle.linked_calls.specs.FunctionCode.{shared_tail}
 use Rattle.linked_calls.specs.declared.pace.Pace.TheVariants.{Fast, Small}
 
 abbrev add_one : Fields
@@ -22,16 +23,19 @@ needs = record { blank = Some []; spared = false ∷ [] }
 room : room_of add_one ≡ 16
 room = refl
 
-words : length (function_words add_one needs Fast) ≡ 30
+words : length (function_words add_one needs Fast 0) ≡ 30
 unfolding function_words
 words = refl
 
 steps : (pointers : ℕ → ℕ) → around_steps add_one needs Fast pointers ≡ 26
 steps pointers = refl
 
-small_words : length (function_words add_one needs Small) ≡ 30
+small_words : length (function_words add_one needs Small 0) ≡ 10
 unfolding function_words
 small_words = refl
 
-small_steps : (pointers : ℕ → ℕ) → around_steps add_one needs Small pointers ≡ 26
+tail_words : length shared_tail ≡ 21
+tail_words = refl
+
+small_steps : (pointers : ℕ → ℕ) → around_steps add_one needs Small pointers ≡ 27
 small_steps pointers = refl

@@ -1,6 +1,6 @@
 -- The linked call: a caller that keeps the calling convention gets what the source means, in an exact number of steps
 -- around those of the body, and its secrets make no difference to what an observer sees.
-use Rattle.std.specs.Prelude.{◌≡◌, ℕ, suc, ◌+◌, ◌*◌, ◌%◌, ◌<◌, List, None}
+use Rattle.std.specs.Prelude.{◌≡◌, ℕ, suc, ◌+◌, ◌-◌, ◌*◌, ◌%◌, ◌<◌, List, length, None}
 use Rattle.language.specs.arguments.Agreement.{Agree}
 use Rattle.language.specs.arguments.PublicResults.{AgreeInPublic}
 use Rattle.linked_calls.specs.Below.{Arg, MachineCode, Fields, goes_on, IsImage, LeadsWithin, moved_to, Observation}
@@ -12,9 +12,15 @@ use Rattle.hepurita.specs.Meant.{Means}
 use Rattle.language.specs.Tree.{ProcedureTree, ProgramTree}
 use Rattle.linked_calls.specs.Called.{IsOfCall, IsLeft}
 use Rattle.linked_calls.specs.Calls.{CallSite, IsSite, IsCalled, arguments_of}
-use Rattle.linked_calls.specs.FunctionCode.{before_return}
+use Rattle.linked_calls.specs.FunctionCode.{shared_tail, up_to_last}
 use Rattle.linked_calls.specs.Sections.{around_steps}
 use Rattle.linked_calls.specs.declared.pace.Pace.{Pace}
+use Rattle.linked_calls.specs.declared.pace.Pace.TheVariants.{Fast, Small}
+
+-- where the instruction stands that goes back to the caller: the last before the copier, or that of the shared tail
+abbrev pub return_at : Fields → Needs → Pace → CallSite → ℕ
+return_at image needs Fast site = site.entry + 4 * (up_to_last image needs Fast - 1)
+return_at image needs Small site = site.tail + 4 * (length shared_tail - 1)
 
 -- a call from this state: all its steps but the last, which jumps back, and that one. What it shows is this list
 pub record CallReturns (program : ProgramTree) (image : Fields) (needs : Needs) (pace : Pace) (code : MachineCode)
@@ -29,7 +35,7 @@ pub record CallReturns (program : ProgramTree) (image : Fields) (needs : Needs) 
   pub body_steps : ℕ
   pub within_steps : body_steps < image.max_steps
   pub counted : suc step_count ≡ around_steps image needs pace site.pointers + body_steps
-  pub at_last : end.pc ≡ site.entry + 4 * before_return image needs pace
+  pub at_last : end.pc ≡ return_at image needs pace site
   pub left : IsLeft image site s.regs s.bytes results end
   -- a caller of code without compressed instructions stands at a multiple of 4
   pub goes_back : s.regs 1 % 4 ≡ 0 → Step code end (goes_on (observed end None) (moved_to end (s.regs 1)))

@@ -5,17 +5,19 @@ use Rattle.hepurita.specs.Needs.{Needs}
 use Rattle.std.specs.Prelude.{◌≡◌, ◌⊎◌, ℕ, ◌+◌, ◌-◌, ◌*◌, ◌%◌, ◌^◌, ◌<◌, ◌≤◌, nat_lt, List, [], ◌∷◌, length, map}
 use Rattle.std.specs.Prelude.{if◌then◌else◌}
 use Rattle.linked_calls.specs.Below.{Arg, Array, MachineCode, element_bytes, Fields, FixedArray, Form, MutableArray}
-use Rattle.linked_calls.specs.Below.{numbers_at, SingleWord, Slot, Stand, State, word_in}
+use Rattle.linked_calls.specs.Below.{numbers_at, SingleWord, Slot, Stand, State, word_in, word_of}
 use Rattle.language.specs.declared.values.Arg.TheVariants.{Word}
-use Rattle.linked_calls.specs.FunctionCode.{function_words, room_of, array_bytes}
+use Rattle.linked_calls.specs.FunctionCode.{array_bytes, function_words, room_of, shared_tail, tail_entry, up_to_last}
 use Rattle.linked_calls.specs.Meant.{meant}
 use Rattle.linked_calls.specs.Stretches.{AreBytes, AreData}
 use Rattle.linked_calls.specs.declared.pace.Pace.{Pace}
+use Rattle.linked_calls.specs.declared.pace.Pace.TheVariants.{Fast, Small}
 
--- where a function's words begin, where the stack pointer is at the call, and where the i-th argument points if it is
--- an array
+-- where a function's words begin, and those of the tail that functions share; where the stack pointer is at the call,
+-- and where the i-th argument points if it is an array
 pub record CallSite : Type 0 where
   pub entry : ℕ
+  pub tail : ℕ
   pub stack : ℕ
   pub pointers : ℕ → ℕ
 
@@ -54,12 +56,38 @@ abbrev pub LieWell : Fields → CallSite → ℕ → List Slot → Type 0
 LieWell image site i [] = Unit {0}
 LieWell image site i (slot ∷ slots) = LiesWell image site i slot slot.param.form × LieWell image site (i + 1) slots
 
--- the function's words stand in the code, which the image's observer observes; the stack has room, and the arrays lie
--- well.
+-- Where the code lies.
+
+-- where a function goes on to the shared tail, and where it enters it
+
+abbrev pub onward_at : Fields → Needs → CallSite → ℕ
+onward_at image needs site = site.entry + 4 * up_to_last image needs Small
+
+abbrev pub tail_at : Fields → CallSite → ℕ
+tail_at image site = site.tail + tail_entry (room_of image)
+
+-- how far the one is from the other, modulo 2^32
+abbrev pub tail_ahead : Fields → Needs → Pace → CallSite → ℕ
+tail_ahead image needs Fast site = 0
+tail_ahead image needs Small site = (tail_at image site + 2 ^ 32 - onward_at image needs site) % 2 ^ 32
+
+-- a jump reaches 1 MiB: RISC-V Unprivileged ISA, section "Unconditional Jumps"
+abbrev pub Reaches : ℕ → ℕ → Type 0
+Reaches from to = (from ≤ to + 2 ^ 20) × (to < from + 2 ^ 20)
+
+-- a function at a small pace has the shared tail, wherever it stands within the reach of its jump
+abbrev pub HasTail : Fields → Needs → Pace → MachineCode → CallSite → Type 0
+HasTail image needs Fast code site = Unit {0}
+HasTail image needs Small code site = Stand code site.tail (map word_of shared_tail)
+    × Reaches (onward_at image needs site) (tail_at image site)
+
+-- the function's words stand in the code, which the image's observer observes, and so does the tail that it goes on
+-- to; the stack has room, and the arrays lie well.
 -- Two `mut` arrays may be one
 pub record IsSite (image : Fields) (needs : Needs) (pace : Pace) (code : MachineCode) (site : CallSite) : Type 0 where
   pub observed : code.profile ≡ image.profile
-  pub words : Stand code site.entry (function_words image needs pace)
+  pub words : Stand code site.entry (function_words image needs pace (tail_ahead image needs pace site))
+  pub tail : HasTail image needs pace code site
   pub stack_aligned : site.stack % 16 ≡ 0
   pub room : room_of image ≤ site.stack
   pub stack_ends : arguments_end image site < 2 ^ 32

@@ -6,7 +6,8 @@
 -- behind the body. Arguments that no register holds stand with the caller, from the end of the room on.
 --
 -- At a fast pace loops do much in each round, and arrays share one loop, the copier, which stands behind the rest of
--- the function. At a small pace loops do little in each round, and each array has its own.
+-- the function. At a small pace loops do little in each round, and each array has its own. What a call does last is
+-- the same for all functions: at a small pace they share its code, the tail, which may stand anywhere.
 use Rattle.std.specs.Prelude.{ℕ, ◌+◌, ◌-◌, ◌*◌, ◌/◌, ◌%◌, ◌^◌, ◌==◌, List, [], ◌∷◌, ◌++◌, length, map}
 use Rattle.std.specs.Prelude.{max, replicate, slice_get, take, unwrap_or}
 use Rattle.std.specs.Prelude.{Bool, true, false, not, ◌&&◌, ◌||◌, nat_le, nat_lt, Option, Some, None, if◌then◌else◌}
@@ -454,13 +455,30 @@ wipe_code room = if room == 0 then [] else until_equal stack_register 5 up_code
 abbrev pub clear_registers_code : List ℕ → List Instr
 clear_registers_code rs = map (λ r. Immediate Addi r 0 0) rs
 
+-- The tail: the room wiped, the registers cleared, and back to the caller.
+
+abbrev pub tail_code : ℕ → List Instr
+tail_code room =
+    wipe_code room ++ clear_registers_code scratch_registers ++ JumpRegister 0 link_register 0 ∷ []
+
+-- that of calls that have a room, which functions share
+abbrev pub shared_tail : List Instr
+shared_tail = tail_code 16
+
+-- how many bytes from its beginning on it is entered: a call without a room has nothing to wipe
+abbrev pub tail_entry : ℕ → ℕ
+tail_entry room = 4 * (length shared_tail - length (tail_code room))
+
+-- on to what stands so many bytes ahead, modulo 2^32
+abbrev pub onward_code : ℕ → Instr
+onward_code ahead = Jump 0 (ahead / 2 % 2 ^ 20)
+
 -- behind the arrays
 abbrev pub end_code : Fields → Pace → List Instr
-end_code image pace =
-    restore_code image ++ wipe_code (room_of image) ++ clear_registers_code scratch_registers
-    ++ JumpRegister 0 link_register 0 ∷ []
+end_code image Fast = restore_code image ++ tail_code (room_of image)
+end_code image Small = restore_code image
 
--- behind the body, and up to the copier
+-- behind the body, up to the copier or the way on to the shared tail
 abbrev pub leave_code : Fields → Pace → List Instr
 leave_code image pace =
     result_code image.returned ++ results_code image pace (length (end_code image pace)) 0 image.slots
@@ -468,16 +486,22 @@ leave_code image pace =
 
 -- The function.
 
--- how many words there are from the body on up to the copier
+-- how many words there are from the body on up to there
 abbrev pub from_body : Fields → Pace → ℕ
 from_body image pace = length (body_words image.words) + length (leave_code image pace)
 
--- and how many before the jump back
-abbrev pub before_return : Fields → Needs → Pace → ℕ
-before_return image needs pace =
-    length (enter_code image needs pace (from_body image pace)) + from_body image pace - 1
+-- and how many from the first one on
+abbrev pub up_to_last : Fields → Needs → Pace → ℕ
+up_to_last image needs pace =
+    length (enter_code image needs pace (from_body image pace)) + from_body image pace
 
-unfoldable pub function_words : Fields → Needs → Pace → List ℕ
-function_words image needs pace =
+-- the copier, or on to the shared tail, so many bytes ahead
+abbrev pub last_code : Fields → Pace → ℕ → List Instr
+last_code image Fast ahead = copier_end (copier_of image Fast)
+last_code image Small ahead = onward_code ahead ∷ []
+
+-- of a function that enters the shared tail, if it does, so many bytes behind where it goes on to it
+unfoldable pub function_words : Fields → Needs → Pace → ℕ → List ℕ
+function_words image needs pace ahead =
     map word_of (enter_code image needs pace (from_body image pace)) ++ body_words image.words
-    ++ map word_of (leave_code image pace) ++ map word_of (copier_end (copier_of image pace))
+    ++ map word_of (leave_code image pace) ++ map word_of (last_code image pace ahead)

@@ -14,9 +14,10 @@ use Rattle.linked_calls.specs.FunctionCode.{above_code, added, address_code, are
 use Rattle.linked_calls.specs.FunctionCode.{clear_registers_code, copied_in_code, copied_out_code, copier_code}
 use Rattle.linked_calls.specs.FunctionCode.{copier_of, copy_out_code, down_code, elements_code, first_argument}
 use Rattle.linked_calls.specs.FunctionCode.{goes_by_call, goes_in_as_it_is, in_round, is_skipped, kept_of}
-use Rattle.linked_calls.specs.FunctionCode.{lowered_code, needed_of, places_in_code, places_out_code}
+use Rattle.linked_calls.specs.FunctionCode.{lowered_code, needed_of, onward_code, places_in_code, places_out_code}
 use Rattle.linked_calls.specs.FunctionCode.{result_code, until_equal, wipe_code, word_code}
 use Rattle.linked_calls.specs.declared.pace.Pace.{Pace}
+use Rattle.linked_calls.specs.declared.pace.Pace.TheVariants.{Fast, Small}
 use Rattle.linked_calls.specs.declared.round.Round.{Round}
 use Rattle.linked_calls.specs.declared.section.Section.{Section}
 use Rattle.linked_calls.specs.declared.section.Section.TheVariants.{RoomAboveFrame, SavedRegisters, ArgumentRegisters}
@@ -24,7 +25,7 @@ use Rattle.linked_calls.specs.declared.section.Section.TheVariants.{FrameBase, C
 use Rattle.linked_calls.specs.declared.section.Section.TheVariants.{ArgumentIn, ResultOut}
 use Rattle.linked_calls.specs.declared.section.Section.TheVariants.{ArrayOut, FrameTop, RestoredRegisters}
 use Rattle.linked_calls.specs.declared.section.Section.TheVariants.{CallersStack, WipedRoom, ClearedRegisters, Copier}
-use Rattle.linked_calls.specs.declared.section.Section.TheVariants.{Return}
+use Rattle.linked_calls.specs.declared.section.Section.TheVariants.{Return, SharedTail}
 
 -- the sections of a frame that is zeroed whole, where it has room
 abbrev pub zeroed_sections : ℕ → List Section
@@ -66,18 +67,33 @@ abbrev pub array_sections : ℕ → List Slot → List Section
 array_sections i [] = []
 array_sections i (slot ∷ slots) = array_section i slot slot.param.form ++ array_sections (i + 1) slots
 
--- behind the body
-abbrev pub leave_sections : Fields → List Section
-leave_sections image =
-    ResultOut ∷ array_sections 0 image.slots
-    ++ FrameTop ∷ RestoredRegisters ∷ CallersStack ∷ WipedRoom ∷ ClearedRegisters ∷ Return ∷ []
+-- the tail
+abbrev pub tail_sections : List Section
+tail_sections = WipedRoom ∷ ClearedRegisters ∷ Return ∷ []
 
--- behind all others, where the function has a copier
+-- that of the function itself
+abbrev pub own_tail_sections : Pace → List Section
+own_tail_sections Fast = tail_sections
+own_tail_sections Small = []
+
+-- behind the body
+abbrev pub leave_sections : Fields → Pace → List Section
+leave_sections image pace =
+    ResultOut ∷ array_sections 0 image.slots
+    ++ FrameTop ∷ RestoredRegisters ∷ CallersStack ∷ own_tail_sections pace
+
+-- the copier, where the function has one
 abbrev pub copier_sections : Option Round → List Section
 copier_sections None = []
 copier_sections (Some round) = Copier round ∷ []
 
--- of a section that stands so many instructions before the copier
+-- behind all others: the copier, or on to the shared tail
+abbrev pub last_sections : Fields → Pace → List Section
+last_sections image Fast = copier_sections (copier_of image Fast)
+last_sections image Small = SharedTail ∷ []
+
+-- of a section that stands so many instructions before the copier. How far ahead the shared tail is, is left for the
+-- linker
 abbrev pub section_code : Fields → Pace → ℕ → Section → List Instr
 section_code image pace behind RoomAboveFrame = above_code (above_frame image)
 section_code image pace behind SavedRegisters = stores_code stack_register 0 (kept_of image)
@@ -96,6 +112,7 @@ section_code image pace behind WipedRoom = wipe_code (room_of image)
 section_code image pace behind ClearedRegisters = clear_registers_code scratch_registers
 section_code image pace behind Return = JumpRegister 0 link_register 0 ∷ []
 section_code image pace behind (Copier round) = copier_code round
+section_code image pace behind SharedTail = onward_code 0 ∷ []
 
 -- of sections of which the last stands so many instructions before the copier
 abbrev pub code_of : Fields → Pace → ℕ → List Section → List Instr
@@ -188,7 +205,13 @@ section_steps image pace pointers (ArrayOut i slot) = handed_steps image pace i 
 section_steps image pace pointers WipedRoom = blocks_steps (room_of image)
 section_steps image pace pointers section = length (section_code image pace 0 section)
 
+-- on to the shared tail, and those of the tail
+abbrev pub onward_steps : Fields → Pace → ℕ
+onward_steps image Fast = 0
+onward_steps image Small = 1 + sum (map (section_steps image Small (λ i. 0)) tail_sections)
+
 -- of all that stands around the body
 abbrev pub around_steps : Fields → Needs → Pace → (ℕ → ℕ) → ℕ
 around_steps image needs pace pointers =
-    sum (map (section_steps image pace pointers) (enter_sections image needs pace ++ leave_sections image))
+    sum (map (section_steps image pace pointers) (enter_sections image needs pace ++ leave_sections image pace))
+    + onward_steps image pace

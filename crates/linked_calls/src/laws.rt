@@ -6,8 +6,8 @@ ghost use Rattle.hepurita.specs.Needs.{Needs};
 ghost use Rattle.linked_calls.specs.Callable.{CallsAreLinked};
 ghost use Rattle.linked_calls.specs.Cleared.{RegistersAreCleared};
 ghost use Rattle.linked_calls.specs.Copies.{ArrayIsTaken, ArrayIsHandedBack, CopierCopies, CopiesAreShort};
-ghost use Rattle.linked_calls.specs.FunctionCode.{copier_of, function_words};
-ghost use Rattle.linked_calls.specs.Sections.{code_of, CodeIsPlaced, copier_sections, enter_sections, leave_sections};
+ghost use Rattle.linked_calls.specs.FunctionCode.{function_words};
+ghost use Rattle.linked_calls.specs.Sections.{code_of, CodeIsPlaced, enter_sections, last_sections, leave_sections};
 ghost use Rattle.linked_calls.specs.Words.{ResultIsHandedBack, WordIsTaken};
 ghost use Rattle.linked_calls.specs.Zeros.{FrameIsZeroed, RoomIsWiped};
 ghost use Rattle.linked_calls.specs.declared.pace.Pace.{Pace};
@@ -23,17 +23,17 @@ pub fn calls_are_linked()
     ensures { CallsAreLinked }
 {}
 
-/// The words of the sections' instructions, with the body's between them and the copier's behind them, are those of the
-/// function.
+/// The words of the sections' instructions, with the body's between them and those of the last behind them, are those
+/// of the function, where the shared tail is no bytes ahead.
 pub fn sections_are_the_function()
     ensures { (image : Fields) (needs : Needs) (pace : Pace)
         → map word_of (code_of image pace
-        (length (body_words image.words) + length (code_of image pace 0 (leave_sections image)))
+        (length (body_words image.words) + length (code_of image pace 0 (leave_sections image pace)))
         (enter_sections image needs pace))
         ++ body_words image.words
-        ++ map word_of (code_of image pace 0 (leave_sections image))
-        ++ map word_of (code_of image pace 0 (copier_sections (copier_of image pace)))
-        ≡ function_words image needs pace }
+        ++ map word_of (code_of image pace 0 (leave_sections image pace))
+        ++ map word_of (code_of image pace 0 (last_sections image pace))
+        ≡ function_words image needs pace 0 }
 {}
 
 /// How many instructions sections have does not hang on where the copier stands, and they hang on no more of it than

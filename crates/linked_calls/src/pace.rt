@@ -5,6 +5,7 @@
 pub enum Pace {
     /// Few steps: arrays go by words, which one copier copies for all of them.
     Fast,
-    /// Few words: each array has a loop of its own, which copies one element a round.
+    /// Few words: each array has a loop of its own, which copies one element a round, and functions share what they do
+    /// last.
     Small,
 }

@@ -40,4 +40,6 @@ pub enum Section {
     Return,
     /// From x5 on to where x6 is, up to x7, so many words a round, and back by x30.
     Copier(Round),
+    /// On to the tail that functions share, which does what `WipedRoom`, `ClearedRegisters` and `Return` do.
+    SharedTail,
 }

@@ -67,7 +67,7 @@ module _ (differ : (i j : Instr) → IsInstr i → IsInstr j → word_of i ≡ w
       a.whole
       ∙ ap (λ (body : List ℕ). head_lines f ++ entry_lines notation f
       ++ (title_line (codes "the body") ++ body)
-      ++ exit_lines notation f ++ tail_lines f)
+      ++ exit_lines notation f ++ tail_lines notation f)
       (same_lines f.name (body_start f) (body_words f.image.words) a.body b.body a.listed b.listed)
       ∙ sym b.whole
 

@@ -2,10 +2,15 @@
 -- is left for the assembler to encode; or, where that is asked for, as its instruction, behind a label. What changes
 -- for a debugger stands behind the word that changes it: where the caller's x2 was, from which register on, and where
 -- the caller's registers are kept.
-use Rattle.std.specs.Prelude.{◌≡◌, ◌≢◌, ℕ, ◌+◌, ◌-◌, ◌^◌, false, List, [], ◌∷◌, ◌++◌, codes, length}
+--
+-- The tail that functions share stands behind the function, under a name that no source gives and in a section of
+-- which a linker keeps one for all of them. How far the jump to it goes is left for the linker.
+use Rattle.std.specs.Prelude.{◌≡◌, ◌≢◌, ℕ, ◌+◌, ◌-◌, ◌^◌, ◌==◌, false, List, [], ◌∷◌, ◌++◌, codes, length}
+use Rattle.std.specs.Prelude.{if◌then◌else◌}
 use Rattle.std.specs.Fmt.{decimal, digits, padded_integral, format_spec}
-use Rattle.functions.specs.Below.{above_frame, body_words, Branch, branch_row, branch_target, code_of, copier_of}
-use Rattle.functions.specs.Below.{copier_sections, enter_sections, Fence, kept_of, stack_register, stores_code}
+use Rattle.functions.specs.Below.{above_frame, body_words, Branch, branch_row, branch_target, code_of}
+use Rattle.functions.specs.Below.{enter_sections, Fence, kept_of, last_sections, shared_tail, stack_register}
+use Rattle.functions.specs.Below.{stores_code, tail_entry, wipe_code}
 use Rattle.functions.specs.Below.{Fields, FixedArray, Form, function_words, Instr, IsInstr, Jump, jump_target}
 use Rattle.functions.specs.Below.{leave_sections, Load, MutableArray, P1, P2, Profile, reg_text, room_of, section_code}
 use Rattle.functions.specs.Below.{SingleWord, Store, sum_of, text_of, three_operands, two_operands, word_of}
@@ -15,7 +20,9 @@ use Rattle.linked_calls.specs.declared.section.Section.TheVariants.{FrameBase, C
 use Rattle.linked_calls.specs.declared.section.Section.TheVariants.{ArgumentIn, ResultOut}
 use Rattle.linked_calls.specs.declared.section.Section.TheVariants.{ArrayOut, FrameTop, RestoredRegisters}
 use Rattle.linked_calls.specs.declared.section.Section.TheVariants.{CallersStack, WipedRoom, ClearedRegisters, Copier}
-use Rattle.linked_calls.specs.declared.section.Section.TheVariants.{Return}
+use Rattle.linked_calls.specs.declared.section.Section.TheVariants.{Return, SharedTail}
+use Rattle.linked_calls.specs.declared.pace.Pace.{Pace}
+use Rattle.linked_calls.specs.declared.pace.Pace.TheVariants.{Fast, Small}
 use Rattle.functions.specs.declared.function_text.notation.Notation.{Notation}
 use Rattle.functions.specs.declared.function_text.notation.Notation.TheVariants.{Mnemonics, Numbers}
 use Rattle.functions.specs.function_text.Functions.{FunctionParts}
@@ -103,6 +110,7 @@ section_title WipedRoom = codes "all the room, wiped upward"
 section_title ClearedRegisters = codes "temporaries, wiped"
 section_title Return = codes "back"
 section_title (Copier round) = codes "from x5 to x6 up to x7, and back"
+section_title SharedTail = codes "on to the tail that functions share"
 
 -- a register of the caller is kept at an offset above the frame
 abbrev pub kept_line : Fields → Instr → List ℕ
@@ -141,30 +149,48 @@ end_line image CallersStack = frame_line 5 0
 end_line image WipedRoom = frame_line 2 0
 end_line image _ = []
 
--- an instruction of a section at a position
-abbrev pub instruction_lines : Notation → FunctionParts → Section → ℕ → Instr → List ℕ
-instruction_lines notation f section at instruction =
-    code_line notation f.name at (instruction_text notation f.name at instruction)
-    ++ change_lines f.image section instruction
+-- the symbol of the tail that functions share
+abbrev pub tail_name : List ℕ
+tail_name = codes "factc.tail.1"
+
+-- where a call with so much room enters it, from its beginning on
+abbrev pub entry_text : ℕ → List ℕ
+entry_text room = if room == 0 then codes "+" ++ decimal (tail_entry 0) else []
+
+abbrev pub tail_target : ℕ → List ℕ
+tail_target room = tail_name ++ entry_text room
+
+-- what is written for an instruction of a section at a position
+abbrev pub written_text : Notation → List ℕ → Fields → Section → ℕ → Instr → List ℕ
+written_text notation name image SharedTail at instruction =
+    two_operands (codes "jal") (codes "x0") (tail_target (room_of image))
+written_text notation name image _ at instruction = instruction_text notation name at instruction
+
+abbrev pub instruction_lines : Notation → List ℕ → Fields → Section → ℕ → Instr → List ℕ
+instruction_lines notation name image section at instruction =
+    code_line notation name at (written_text notation name image section at instruction)
+    ++ change_lines image section instruction
 
 -- instructions of a section from a position on
-abbrev pub code_lines : Notation → FunctionParts → Section → ℕ → List Instr → List ℕ
-code_lines notation f section at [] = []
-code_lines notation f section at (instruction ∷ code) =
-    instruction_lines notation f section at instruction ++ code_lines notation f section (next_position at) code
+abbrev pub code_lines : Notation → List ℕ → Fields → Section → ℕ → List Instr → List ℕ
+code_lines notation name image section at [] = []
+code_lines notation name image section at (instruction ∷ code) =
+    instruction_lines notation name image section at instruction
+    ++ code_lines notation name image section (next_position at) code
 
 -- a section from a position on, with its code
-abbrev pub section_lines : Notation → FunctionParts → Section → ℕ → List Instr → List ℕ
-section_lines notation f section at code =
-    title_line (section_title section) ++ start_lines f.image section ++ code_lines notation f section at code
-    ++ end_line f.image section
+abbrev pub section_lines : Notation → List ℕ → Fields → Section → ℕ → List Instr → List ℕ
+section_lines notation name image section at code =
+    title_line (section_title section) ++ start_lines image section ++ code_lines notation name image section at code
+    ++ end_line image section
 
--- sections from a position on, of which the last stands so many instructions before the copier
-abbrev pub sections_lines : Notation → FunctionParts → ℕ → ℕ → List Section → List ℕ
-sections_lines notation f distance at [] = []
-sections_lines notation f distance at (section ∷ sections) =
+-- sections of what has this name from a position on, of which the last stands so many instructions before the copier
+abbrev pub sections_lines : Notation → List ℕ → FunctionParts → ℕ → ℕ → List Section → List ℕ
+sections_lines notation name f distance at [] = []
+sections_lines notation name f distance at (section ∷ sections) =
     let code = section_code f.image f.pace (length (code_of f.image f.pace distance sections) + distance) section in
-    section_lines notation f section at code ++ sections_lines notation f distance (behind at code) sections
+    section_lines notation name f.image section at code
+    ++ sections_lines notation name f distance (behind at code) sections
 
 -- The body, whose words are the image's.
 
@@ -188,11 +214,16 @@ abbrev pub profile_text : Profile → List ℕ
 profile_text P1 = codes "1"
 profile_text P2 = codes "2"
 
+-- how many words are shared
+abbrev pub shared_text : Pace → List ℕ
+shared_text Fast = []
+shared_text Small = codes " and " ++ decimal (length shared_tail) ++ codes " shared"
+
 -- how large the function is, and for which observer
 abbrev pub sizes_text : FunctionParts → List ℕ
 sizes_text f =
-    decimal (length (function_words f.image f.needs f.pace)) ++ codes " words, " ++ decimal (room_of f.image)
-    ++ codes " bytes of stack, profile " ++ profile_text f.image.profile
+    decimal (length (function_words f.image f.needs f.pace 0)) ++ codes " words" ++ shared_text f.pace ++ codes ", "
+    ++ decimal (room_of f.image) ++ codes " bytes of stack, profile " ++ profile_text f.image.profile
 
 abbrev pub first_line : FunctionParts → List ℕ
 first_line f = codes "# " ++ f.name ++ codes ": made by factc 1.0.0 function; " ++ sizes_text f ++ codes "\n"
@@ -213,13 +244,13 @@ symbol_lines f =
 abbrev pub head_lines : FunctionParts → List ℕ
 head_lines f = first_line f ++ place_lines f ++ symbol_lines f
 
-abbrev pub tail_lines : FunctionParts → List ℕ
-tail_lines f = codes "    .cfi_endproc\n    .size " ++ f.name ++ codes ", . - " ++ f.name
-    ++ codes "\n    .option pop\n"
+-- where a symbol ends
+abbrev pub size_lines : List ℕ → List ℕ
+size_lines name = codes "    .cfi_endproc\n    .size " ++ name ++ codes ", . - " ++ name ++ codes "\n"
 
--- how many instructions there are from the body on up to the copier
+-- how many instructions there are from the body on up to the last section
 abbrev pub from_body : FunctionParts → ℕ
-from_body f = length (body_words f.image.words) + length (code_of f.image f.pace 0 (leave_sections f.image))
+from_body f = length (body_words f.image.words) + length (code_of f.image f.pace 0 (leave_sections f.image f.pace))
 
 -- where the body begins, and where what stands behind it does
 abbrev pub body_start : FunctionParts → ℕ
@@ -231,21 +262,54 @@ exit_start f = behind (body_start f) (body_words f.image.words)
 -- the sections before the body
 abbrev pub entry_lines : Notation → FunctionParts → List ℕ
 entry_lines notation f =
-    sections_lines notation f (from_body f) 0 (enter_sections f.image f.needs f.pace)
+    sections_lines notation f.name f (from_body f) 0 (enter_sections f.image f.needs f.pace)
 
--- those behind it, from a position on, and the copier
+-- those behind it, from a position on, and the last
 abbrev pub behind_lines : Notation → FunctionParts → ℕ → List ℕ
 behind_lines notation f at =
-    sections_lines notation f 0 at (leave_sections f.image)
-    ++ sections_lines notation f 0 (behind at (code_of f.image f.pace 0 (leave_sections f.image)))
-    (copier_sections (copier_of f.image f.pace))
+    sections_lines notation f.name f 0 at (leave_sections f.image f.pace)
+    ++ sections_lines notation f.name f 0 (behind at (code_of f.image f.pace 0 (leave_sections f.image f.pace)))
+    (last_sections f.image f.pace)
 
 abbrev pub exit_lines : Notation → FunctionParts → List ℕ
 exit_lines notation f = behind_lines notation f (exit_start f)
+
+-- The tail that functions share: in a section of which a linker keeps one, entered with the caller's x2 in x5.
+
+abbrev pub shared_section : List ℕ
+shared_section =
+    codes "    .section .text.factc.tail.1, \"axG\", @progbits, factc.tail.1, comdat\n    .p2align 2\n"
+
+abbrev pub shared_symbol : List ℕ
+shared_symbol = codes "    .globl factc.tail.1\n    .hidden factc.tail.1\n    .type factc.tail.1, @function\n"
+
+abbrev pub shared_start : List ℕ
+shared_start = codes "factc.tail.1:\n    .cfi_startproc\n"
+
+abbrev pub shared_place_lines : List ℕ
+shared_place_lines = shared_section ++ shared_symbol ++ shared_start ++ frame_line 5 0
+
+-- where a call has a room, it is wiped
+abbrev pub shared_wiping_lines : Notation → FunctionParts → List ℕ
+shared_wiping_lines notation f = section_lines notation tail_name f.image WipedRoom 0 (wipe_code 16)
+
+abbrev pub shared_lines : Notation → FunctionParts → List ℕ
+shared_lines notation f =
+    shared_place_lines ++ shared_wiping_lines notation f
+    ++ sections_lines notation tail_name f 0 (behind 0 (wipe_code 16)) (ClearedRegisters ∷ Return ∷ [])
+    ++ size_lines tail_name
+
+abbrev pub shared_part_lines : Notation → FunctionParts → Pace → List ℕ
+shared_part_lines notation f Fast = []
+shared_part_lines notation f Small = shared_lines notation f
+
+-- behind the function's words
+abbrev pub tail_lines : Notation → FunctionParts → List ℕ
+tail_lines notation f = size_lines f.name ++ shared_part_lines notation f f.pace ++ codes "    .option pop\n"
 
 pub record IsAssemblerText (notation : Notation) (f : FunctionParts) (text : List ℕ) : Type 0 where
   pub body : List ℕ
   pub listed : ListsWords notation f.name (body_start f) (body_words f.image.words) body
   pub whole : text ≡ head_lines f ++ entry_lines notation f
       ++ (title_line (codes "the body") ++ body)
-      ++ exit_lines notation f ++ tail_lines f
+      ++ exit_lines notation f ++ tail_lines notation f

@@ -2,7 +2,7 @@
 
 ghost use Rattle.std.specs.Prelude.{◌≡◌, ◌++◌, ◌∷◌, [], OnOk};
 ghost use Rattle.functions.specs.Below.{above_frame, added, address_code, copier_of, copy_out_code, JumpRegister};
-ghost use Rattle.functions.specs.Below.{link_register, result_code};
+ghost use Rattle.functions.specs.Below.{link_register, onward_code, result_code};
 ghost use Rattle.functions.specs.function_code.Above.{IsAbove};
 
 use crate::function_code::arrays::copy_out;
@@ -12,7 +12,7 @@ use crate::function_code::room::Around;
 use codegen::expression_code::emit::load;
 use codegen::image_fields::{ImageFields, ResultSlot, Slot};
 use language::Form;
-use rv_code::{Immediate12, ImmediateOperation, Instr, Reg};
+use rv_code::{Immediate12, ImmediateOperation, Instr, JumpOffset, Reg};
 use std::alloc::{AllocError, Global};
 
 /// The result into a0, which becomes 0 where there is none.
@@ -68,6 +68,14 @@ pub fn callers_stack(
     ensures { OnOk result (code.new.items ≡ code.old.items ++ added 5 (above_frame image.now) ∷ []) }
 {
     code.push(added(Reg::X5, above))?;
+    Ok(())
+}
+
+/// On to the tail that functions share, how far that may be.
+pub fn go_on(code: &mut Vec<Instr>) -> Result<(), AllocError>
+    ensures { OnOk result (code.new.items ≡ code.old.items ++ onward_code 0 ∷ []) }
+{
+    code.push(Instr::Jump(Reg::X0, JumpOffset::from_halves(0)))?;
     Ok(())
 }
 

@@ -4,7 +4,8 @@ ghost use Rattle.std.specs.Prelude.{◌≡◌, ◌≤◌, ◌+◌, ◌%◌, ◌^
 ghost use Rattle.std.specs.Option.{option_map};
 ghost use Rattle.functions.specs.Below.{argument_sections, array_section, array_sections, enter_sections};
 ghost use Rattle.functions.specs.Below.{first_argument, frame_sections, kept_of, leave_sections, loads_code, needed_of};
-ghost use Rattle.functions.specs.Below.{code_of, copier_of, copier_sections, section_code, stores_code};
+ghost use Rattle.functions.specs.Below.{code_of, copier_of, copier_sections, Fields, last_sections, own_tail_sections};
+ghost use Rattle.functions.specs.Below.{section_code, stores_code};
 ghost use Rattle.functions.specs.function_code.Above.{IsAbove};
 ghost use Rattle.functions.specs.Below.{argument_section, is_open, is_skipped};
 ghost use Rattle.hepurita.specs.Needs.{needs_as};
@@ -16,7 +17,7 @@ use crate::function_code::blank::{are_few, blank_word, lowered_stack};
 use crate::function_code::copier::copier;
 use crate::function_code::entering::{argument, frame_base, room_above};
 use crate::function_code::kept::kept;
-use crate::function_code::leaving::{array, callers_stack, frame_top, go_back, result};
+use crate::function_code::leaving::{array, callers_stack, frame_top, go_back, go_on, result};
 use crate::function_code::pieces::{clear_registers, loads, stores, wrapped};
 use crate::function_code::registers;
 use crate::function_code::room::{Around, first_argument, frame_room, needed_count, room_of};
@@ -24,7 +25,7 @@ use crate::function_code::zeroing::{cleared_frame, wiped_room};
 use codegen::image_fields::{ImageFields, Slot};
 use hepurita::FrameNeeds;
 use language::{Form, Kind, Param};
-use linked_calls::{Pace, Section};
+use linked_calls::{Pace, Round, Section};
 use rv_code::{Instr, Reg};
 use std::alloc::{AllocError, Global};
 
@@ -161,9 +162,28 @@ pub fn enter_sections(
     Ok(sections)
 }
 
+/// Puts those of a tail of the function's own at the end.
+fn push_own_tail(sections: &mut Vec<Section>, pace: Pace) -> Result<(), AllocError>
+    ensures { OnOk result (sections.new.items ≡ sections.old.items ++ own_tail_sections pace) }
+{
+    match pace {
+        Pace::Fast => {
+            sections.push(Section::WipedRoom)?;
+            sections.push(Section::ClearedRegisters)?;
+            sections.push(Section::Return)?;
+            Ok(())
+        }
+        Pace::Small => Ok(()),
+    }
+}
+
 /// The sections behind the body.
-pub fn leave_sections(alloc: Global, image: &ImageFields) -> Result<Vec<Section>, AllocError>
-    ensures { IfOk result (λ sections. sections.items ≡ leave_sections image.now) }
+pub fn leave_sections(
+    alloc: Global,
+    image: &ImageFields,
+    pace: Pace,
+) -> Result<Vec<Section>, AllocError>
+    ensures { IfOk result (λ sections. sections.items ≡ leave_sections image.now pace) }
 {
     let mut sections = Vec::new(alloc);
     sections.push(Section::ResultOut)?;
@@ -171,9 +191,7 @@ pub fn leave_sections(alloc: Global, image: &ImageFields) -> Result<Vec<Section>
     sections.push(Section::FrameTop)?;
     sections.push(Section::RestoredRegisters)?;
     sections.push(Section::CallersStack)?;
-    sections.push(Section::WipedRoom)?;
-    sections.push(Section::ClearedRegisters)?;
-    sections.push(Section::Return)?;
+    push_own_tail(&mut sections, pace)?;
     Ok(sections)
 }
 
@@ -254,6 +272,7 @@ fn push_code(
         Section::ClearedRegisters => clear_registers(code, &registers::scratch()),
         Section::Return => go_back(code),
         Section::Copier(round) => copier(alloc, code, round),
+        Section::SharedTail => go_on(code),
     }
 }
 
@@ -330,14 +349,28 @@ pub fn sections_length(
     Ok(count)
 }
 
-/// That of the copier, where the function has one.
-pub fn copier_sections(alloc: Global, around: Around) -> Result<Vec<Section>, AllocError>
-    ensures { IfOk result (λ sections. sections.items ≡ copier_sections around.copier) }
+/// Puts that of the copier at the end, where a function has one.
+fn push_copier(sections: &mut Vec<Section>, copier: Option<Round>) -> Result<(), AllocError>
+    ensures { OnOk result (sections.new.items ≡ sections.old.items ++ copier_sections copier) }
+{
+    match copier {
+        None => Ok(()),
+        Some(round) => {
+            sections.push(Section::Copier(round))?;
+            Ok(())
+        }
+    }
+}
+
+/// The last: the copier, where the function has one, or on to the shared tail.
+pub fn last_sections(alloc: Global, around: Around) -> Result<Vec<Section>, AllocError>
+    ensures { IfOk result (λ sections. (image : Fields) → around.copier ≡ copier_of image around.pace
+        → sections.items ≡ last_sections image around.pace) }
 {
     let mut sections = Vec::new(alloc);
-    match around.copier {
-        None => {}
-        Some(round) => sections.push(Section::Copier(round))?,
+    match around.pace {
+        Pace::Fast => push_copier(&mut sections, around.copier)?,
+        Pace::Small => sections.push(Section::SharedTail)?,
     }
     Ok(sections)
 }

@@ -8,7 +8,7 @@ ghost use Rattle.hepurita.specs.Needs.{needs_as};
 use crate::function_code::pieces::wrapped;
 use crate::function_code::room::{Around, around_body};
 use crate::function_code::sections::{
-    copier_sections, enter_sections, leave_sections, next_code, sections_length,
+    enter_sections, last_sections, leave_sections, next_code, sections_length,
 };
 use codegen::image_fields::ImageFields;
 use hepurita::FrameNeeds;
@@ -59,7 +59,7 @@ pub fn body(image: &ImageFields) -> &[u32]
     }
 }
 
-/// How many words there are from the body on up to the copier, as far as addresses go.
+/// How many words there are from the body on up to the last section, as far as addresses go.
 pub fn from_body(
     alloc: Global,
     image: &ImageFields,
@@ -75,8 +75,8 @@ pub fn from_body(
     Ok(count.wrapping_add(wrapped(body(image).len())))
 }
 
-/// The words of the function of an image, whose body needs this of its frame, at a pace. They are refused only when out
-/// of memory.
+/// The words of the function of an image, whose body needs this of its frame, at a pace; where it goes on to the tail
+/// that functions share, that is no bytes ahead. They are refused only when out of memory.
 pub fn function_words(
     alloc: Global,
     image: &ImageFields,
@@ -84,17 +84,17 @@ pub fn function_words(
     pace: Pace,
 ) -> Result<Vec<u32>, AllocError>
     ensures { IfOk result (λ words.
-        words.items ≡ function_words image.now (needs_as needs.now) pace) }
+        words.items ≡ function_words image.now (needs_as needs.now) pace 0) }
 {
     let around = around_body(image, pace);
     let enter = enter_sections(alloc, image, needs, pace)?;
-    let leave = leave_sections(alloc, image)?;
-    let copier = copier_sections(alloc, around)?;
+    let leave = leave_sections(alloc, image, pace)?;
+    let last = last_sections(alloc, around)?;
     let behind = from_body(alloc, image, around, leave.as_slice())?;
     let mut words = Vec::new(alloc);
     push_sections(alloc, &mut words, image, around, behind, enter.as_slice())?;
     words.extend_from_slice(body(image))?;
     push_sections(alloc, &mut words, image, around, 0, leave.as_slice())?;
-    push_sections(alloc, &mut words, image, around, 0, copier.as_slice())?;
+    push_sections(alloc, &mut words, image, around, 0, last.as_slice())?;
     Ok(words)
 }

@@ -2,28 +2,37 @@
 
 ghost use Rattle.std.specs.Prelude.{◌≡◌, ℕ, ◌++◌, List, [], codes, OnOk, IfOk};
 ghost use Rattle.std.specs.String.{string_bytes};
-ghost use Rattle.functions.specs.Below.{body_words, code_of, copier_of};
+ghost use Rattle.functions.specs.Below.{body_words, code_of, copier_of, wipe_code};
 ghost use Rattle.functions.specs.function_text.AssemblerText.{ListsWords, IsAssemblerText, behind, behind_lines};
 ghost use Rattle.functions.specs.function_text.AssemblerText.{body_start, code_lines, section_lines, sections_lines};
-ghost use Rattle.functions.specs.function_text.AssemblerText.{profile_text, sizes_text, title_line};
+ghost use Rattle.functions.specs.function_text.AssemblerText.{profile_text, shared_text, sizes_text, title_line};
 ghost use Rattle.functions.specs.function_text.AssemblerText.{first_line, place_lines, symbol_lines, head_lines};
-ghost use Rattle.functions.specs.function_text.AssemblerText.{entry_lines, tail_lines};
+ghost use Rattle.functions.specs.function_text.AssemblerText.{entry_lines, shared_lines, shared_part_lines};
+ghost use Rattle.functions.specs.function_text.AssemblerText.{shared_place_lines, shared_wiping_lines, size_lines};
+ghost use Rattle.functions.specs.function_text.AssemblerText.{tail_lines};
 ghost use Rattle.functions.specs.function_text.Functions.{parts_of};
 ghost use Rattle.functions.specs.function_code.Above.{IsAbove};
 
 use crate::function_code::{
-    Around, around_body, body, copier_sections, enter_sections, from_body, function_words,
-    leave_sections, next_code, room_of, sections_length, wrapped,
+    Around, around_body, body, enter_sections, from_body, function_words, last_sections,
+    leave_sections, next_code, room_of, sections_length, wiped_room, wrapped,
 };
 use crate::function_text::function::Function;
 use crate::function_text::lines::{
-    push_end, push_instruction, push_number, push_start, push_title,
+    push_end, push_frame, push_instruction, push_number, push_start, push_title,
 };
 use crate::function_text::notation::{Notation, next_position, push_word};
+use codegen::image_fields::ImageFields;
 use language::Profile;
-use linked_calls::Section;
+use linked_calls::{Pace, Section};
 use rv_code::Instr;
 use std::alloc::{AllocError, Global};
+
+/// The symbol of the tail that functions share, which no source gives.
+const TAIL_NAME: &str = "factc.tail.1";
+
+/// The bytes of a block of the stack.
+const BLOCK: u32 = 16;
 
 /// The number of a profile.
 pub(crate) fn profile_text(profile: Profile) -> &'static str
@@ -38,19 +47,20 @@ pub(crate) fn profile_text(profile: Profile) -> &'static str
 /// The instructions of a section from a position on, at the end of a text; and the position behind them.
 fn push_code(
     text: &mut String,
-    function: &Function,
     notation: Notation,
+    name: &str,
+    image: &ImageFields,
     section: Section,
     start: u32,
     code: &[Instr],
 ) -> Result<u32, AllocError>
     ensures written { OnOk result (string_bytes text.new ≡ string_bytes text.old
-        ++ code_lines notation (parts_of function.now) section start code.now) }
+        ++ code_lines notation name.now image.now section start code.now) }
     ensures ends { IfOk result (λ end. end ≡ behind start code.now) }
 {
     let mut at = start;
     for instruction in code {
-        push_instruction(text, function, notation, section, at, instruction)?;
+        push_instruction(text, notation, name, image, section, at, instruction)?;
         at = next_position(at);
     }
     Ok(at)
@@ -60,39 +70,41 @@ fn push_code(
 fn push_section(
     alloc: Global,
     text: &mut String,
-    function: &Function,
     notation: Notation,
+    name: &str,
+    image: &ImageFields,
     around: Around,
     section: Section,
     start: u32,
     code: &[Instr],
 ) -> Result<u32, AllocError>
-    requires above { IsAbove function.now.image around.above }
-    requires copier { around.copier ≡ copier_of function.now.image around.pace }
+    requires above { IsAbove image.now around.above }
+    requires copier { around.copier ≡ copier_of image.now around.pace }
     ensures written { OnOk result (string_bytes text.new ≡ string_bytes text.old
-        ++ section_lines notation (parts_of function.now) section start code.now) }
+        ++ section_lines notation name.now image.now section start code.now) }
     ensures ends { IfOk result (λ end. end ≡ behind start code.now) }
 {
     push_title(text, section)?;
-    push_start(alloc, text, &function.image, around, section)?;
-    let end = push_code(text, function, notation, section, start, code)?;
-    push_end(text, &function.image, section)?;
+    push_start(alloc, text, image, around, section)?;
+    let end = push_code(text, notation, name, image, section, start, code)?;
+    push_end(text, image, section)?;
     Ok(end)
 }
 
-/// Sections from a position on, of which the last stands so many instructions before the copier, at the end of a text;
-/// and the position behind them.
+/// Sections of what has this name from a position on, of which the last stands so many instructions before the copier,
+/// at the end of a text; and the position behind them.
 fn push_sections(
     alloc: Global,
     text: &mut String,
-    function: &Function,
     notation: Notation,
+    name: &str,
+    function: &Function,
     distance: u32,
     start: u32,
     sections: &[Section],
 ) -> Result<u32, AllocError>
     ensures written { OnOk result (string_bytes text.new ≡ string_bytes text.old
-        ++ sections_lines notation (parts_of function.now) distance start sections.now) }
+        ++ sections_lines notation name.now (parts_of function.now) distance start sections.now) }
     ensures ends { IfOk result (λ end.
         end ≡ behind start (code_of function.now.image function.now.pace distance sections.now)) }
 {
@@ -106,8 +118,9 @@ fn push_sections(
         at = push_section(
             alloc,
             text,
-            function,
             notation,
+            name,
+            image,
             around,
             *section,
             at,
@@ -138,13 +151,25 @@ fn push_words(
     Ok(at)
 }
 
+/// How many words are shared, at the end of a text.
+fn push_shared_words(text: &mut String, pace: Pace) -> Result<(), AllocError>
+    ensures { OnOk result (string_bytes text.new ≡ string_bytes text.old ++ shared_text pace) }
+{
+    match pace {
+        Pace::Fast => Ok(()),
+        Pace::Small => text.push_str(" and 21 shared"),
+    }
+}
+
 /// How large the function is, and for which observer, at the end of a text.
 fn push_sizes(alloc: Global, text: &mut String, function: &Function) -> Result<(), AllocError>
     ensures { OnOk result (string_bytes text.new ≡ string_bytes text.old ++ sizes_text (parts_of function.now)) }
 {
     let words = function_words(alloc, &function.image, &function.needs, function.pace)?;
     push_number(text, words.len() as u64)?;
-    text.push_str(" words, ")?;
+    text.push_str(" words")?;
+    push_shared_words(text, function.pace)?;
+    text.push_str(", ")?;
     push_number(text, u64::from(room_of(&function.image)))?;
     text.push_str(" bytes of stack, profile ")?;
     text.push_str(profile_text(function.image.profile()))
@@ -195,16 +220,105 @@ fn push_head(alloc: Global, text: &mut String, function: &Function) -> Result<()
     push_symbol(text, function)
 }
 
-/// What stands behind the words, at the end of a text.
-fn push_tail(text: &mut String, function: &Function) -> Result<(), AllocError>
-    ensures { OnOk result (string_bytes text.new ≡ string_bytes text.old ++ tail_lines (parts_of function.now)) }
+/// Where a symbol ends, at the end of a text.
+fn push_size(text: &mut String, name: &str) -> Result<(), AllocError>
+    ensures { OnOk result (string_bytes text.new ≡ string_bytes text.old ++ size_lines name.now) }
 {
-    let name = function.name.as_str();
     text.push_str("    .cfi_endproc\n    .size ")?;
     text.push_str(name)?;
     text.push_str(", . - ")?;
     text.push_str(name)?;
-    text.push_str("\n    .option pop\n")
+    text.push_str("\n")
+}
+
+/// How the shared tail stands, at the end of a text.
+fn push_shared_place(text: &mut String) -> Result<(), AllocError>
+    ensures { OnOk result (string_bytes text.new ≡ string_bytes text.old ++ shared_place_lines) }
+{
+    text.push_str(
+        "    .section .text.factc.tail.1, \"axG\", @progbits, factc.tail.1, comdat\n    .p2align 2\n",
+    )?;
+    text.push_str(
+        "    .globl factc.tail.1\n    .hidden factc.tail.1\n    .type factc.tail.1, @function\n",
+    )?;
+    text.push_str("factc.tail.1:\n    .cfi_startproc\n")?;
+    push_frame(text, 5, 0)
+}
+
+/// The section of the shared tail that wipes a room, at the end of a text; and the position behind it.
+fn push_wiping(
+    alloc: Global,
+    text: &mut String,
+    function: &Function,
+    notation: Notation,
+) -> Result<u32, AllocError>
+    ensures written { OnOk result (string_bytes text.new
+        ≡ string_bytes text.old ++ shared_wiping_lines notation (parts_of function.now)) }
+    ensures ends { IfOk result (λ end. end ≡ behind 0 (wipe_code 16)) }
+{
+    let image = &function.image;
+    let around = around_body(image, function.pace);
+    let mut wiping = Vec::new(alloc);
+    wiped_room(alloc, &mut wiping, BLOCK)?;
+    push_section(
+        alloc,
+        text,
+        notation,
+        TAIL_NAME,
+        image,
+        around,
+        Section::WipedRoom,
+        0,
+        wiping.as_slice(),
+    )
+}
+
+/// The tail that functions share, at the end of a text.
+fn push_shared(
+    alloc: Global,
+    text: &mut String,
+    function: &Function,
+    notation: Notation,
+) -> Result<(), AllocError>
+    ensures { OnOk result (string_bytes text.new
+        ≡ string_bytes text.old ++ shared_lines notation (parts_of function.now)) }
+{
+    push_shared_place(text)?;
+    let wiped = push_wiping(alloc, text, function, notation)?;
+    let rest = [Section::ClearedRegisters, Section::Return];
+    push_sections(alloc, text, notation, TAIL_NAME, function, 0, wiped, &rest)?;
+    push_size(text, TAIL_NAME)
+}
+
+/// The same where the function goes on to it.
+fn push_shared_part(
+    alloc: Global,
+    text: &mut String,
+    function: &Function,
+    notation: Notation,
+) -> Result<(), AllocError>
+    ensures { OnOk result (string_bytes text.new ≡ string_bytes text.old
+        ++ shared_part_lines notation (parts_of function.now) function.now.pace) }
+{
+    match function.pace {
+        Pace::Fast => Ok(()),
+        Pace::Small => push_shared(alloc, text, function, notation),
+    }
+}
+
+/// What stands behind the words, at the end of a text.
+fn push_tail(
+    alloc: Global,
+    text: &mut String,
+    function: &Function,
+    notation: Notation,
+) -> Result<(), AllocError>
+    ensures { OnOk result (string_bytes text.new
+        ≡ string_bytes text.old ++ tail_lines notation (parts_of function.now)) }
+{
+    push_size(text, function.name.as_str())?;
+    push_shared_part(alloc, text, function, notation)?;
+    text.push_str("    .option pop\n")
 }
 
 /// The sections before the body, at the end of a text; and where the body begins.
@@ -221,13 +335,15 @@ fn push_entry(
     let image = &function.image;
     let around = around_body(image, function.pace);
     let sections = enter_sections(alloc, image, &function.needs, function.pace)?;
-    let leave = leave_sections(alloc, image)?;
+    let leave = leave_sections(alloc, image, function.pace)?;
     let distance = from_body(alloc, image, around, leave.as_slice())?;
+    let name = function.name.as_str();
     let end = push_sections(
         alloc,
         text,
-        function,
         notation,
+        name,
+        function,
         distance,
         0,
         sections.as_slice(),
@@ -267,10 +383,21 @@ fn push_exit(
         ++ behind_lines notation (parts_of function.now) start) }
 {
     let image = &function.image;
-    let leave = leave_sections(alloc, image)?;
-    let end = push_sections(alloc, text, function, notation, 0, start, leave.as_slice())?;
-    let copier = copier_sections(alloc, around_body(image, function.pace))?;
-    push_sections(alloc, text, function, notation, 0, end, copier.as_slice())?;
+    let name = function.name.as_str();
+    let leave = leave_sections(alloc, image, function.pace)?;
+    let leaving = leave.as_slice();
+    let end = push_sections(alloc, text, notation, name, function, 0, start, leaving)?;
+    let last = last_sections(alloc, around_body(image, function.pace))?;
+    push_sections(
+        alloc,
+        text,
+        notation,
+        name,
+        function,
+        0,
+        end,
+        last.as_slice(),
+    )?;
     Ok(())
 }
 
@@ -288,6 +415,6 @@ pub fn assembler_text(
     let body_start = push_entry(alloc, &mut text, function, notation)?;
     let exit_start = push_body(alloc, &mut text, function, notation, body_start)?;
     push_exit(alloc, &mut text, function, notation, exit_start)?;
-    push_tail(&mut text, function)?;
+    push_tail(alloc, &mut text, function, notation)?;
     Ok(text)
 }

@@ -7,13 +7,11 @@ ghost use Rattle.functions.specs.function_text.AssemblerText.{title_line, frame_
 ghost use Rattle.functions.specs.function_text.AssemblerText.{argument_title, section_title, kept_line, restored_line};
 ghost use Rattle.functions.specs.Below.{copier_of};
 ghost use Rattle.functions.specs.function_code.Above.{IsAbove};
-ghost use Rattle.functions.specs.function_text.AssemblerText.{change_lines, end_line, instruction_lines, kept_lines};
-ghost use Rattle.functions.specs.function_text.AssemblerText.{start_lines};
-ghost use Rattle.functions.specs.function_text.Functions.{parts_of};
+ghost use Rattle.functions.specs.function_text.AssemblerText.{change_lines, code_line, end_line, instruction_lines};
+ghost use Rattle.functions.specs.function_text.AssemblerText.{kept_lines, start_lines, written_text};
 
 use crate::function_code::{Around, above_frame, room_of, section_code};
-use crate::function_text::function::Function;
-use crate::function_text::notation::{Notation, push_code_line};
+use crate::function_text::notation::{Notation, push_code_line, push_onward_line};
 use codegen::image_fields::ImageFields;
 use language::Form;
 use linked_calls::Section;
@@ -30,7 +28,7 @@ pub fn push_number(text: &mut String, number: u64) -> Result<(), AllocError>
 }
 
 /// Where the caller's x2 is, from a register on.
-fn push_frame(text: &mut String, register: u32, distance: u32) -> Result<(), AllocError>
+pub fn push_frame(text: &mut String, register: u32, distance: u32) -> Result<(), AllocError>
     ensures { OnOk result (string_bytes text.new ≡ string_bytes text.old ++ frame_line register distance) }
 {
     text.push_str("    .cfi_def_cfa ")?;
@@ -110,6 +108,7 @@ fn push_section_title(text: &mut String, section: Section) -> Result<(), AllocEr
         Section::ClearedRegisters => text.push_str("temporaries, wiped"),
         Section::Return => text.push_str("back"),
         Section::Copier(_) => text.push_str("from x5 to x6 up to x7, and back"),
+        Section::SharedTail => text.push_str("on to the tail that functions share"),
     }
 }
 
@@ -184,20 +183,40 @@ fn push_change(
     }
 }
 
-/// An instruction of a section at a position, and what changes by it.
-pub fn push_instruction(
+/// What is written for an instruction of a section at a position, as a line.
+fn push_written(
     text: &mut String,
-    function: &Function,
     notation: Notation,
+    name: &str,
+    image: &ImageFields,
     section: Section,
     at: u32,
     instruction: &Instr,
 ) -> Result<(), AllocError>
     ensures { OnOk result (string_bytes text.new ≡ string_bytes text.old
-        ++ instruction_lines notation (parts_of function.now) section at instruction.now) }
+        ++ code_line notation name.now at (written_text notation name.now image.now section at instruction.now)) }
 {
-    push_code_line(text, notation, function.name.as_str(), at, instruction)?;
-    push_change(text, &function.image, section, instruction)
+    match section {
+        Section::SharedTail => push_onward_line(text, notation, name, at, room_of(image)),
+        _ => push_code_line(text, notation, name, at, instruction),
+    }
+}
+
+/// An instruction of a section at a position, and what changes by it.
+pub fn push_instruction(
+    text: &mut String,
+    notation: Notation,
+    name: &str,
+    image: &ImageFields,
+    section: Section,
+    at: u32,
+    instruction: &Instr,
+) -> Result<(), AllocError>
+    ensures { OnOk result (string_bytes text.new ≡ string_bytes text.old
+        ++ instruction_lines notation name.now image.now section at instruction.now) }
+{
+    push_written(text, notation, name, image, section, at, instruction)?;
+    push_change(text, image, section, instruction)
 }
 
 /// What is so for a debugger where a section begins: the copier is run between entering and leaving.

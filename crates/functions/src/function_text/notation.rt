@@ -6,7 +6,7 @@ ghost use Rattle.std.specs.Fmt.{decimal};
 ghost use Rattle.std.specs.String.{string_bytes};
 ghost use Rattle.functions.specs.function_text.AssemblerText.{IsWordLine, code_line, eight_digits, instruction_text};
 ghost use Rattle.functions.specs.function_text.AssemblerText.{label_text, line_start, mnemonic_text, next_position};
-ghost use Rattle.functions.specs.function_text.AssemblerText.{number_text};
+ghost use Rattle.functions.specs.function_text.AssemblerText.{entry_text, number_text, tail_target};
 ghost use Rattle.functions.specs.Below.{branch_row, branch_target, jump_target, reg_text, text_of, three_operands};
 ghost use Rattle.functions.specs.Below.{two_operands, word_of};
 
@@ -172,6 +172,39 @@ pub(crate) fn push_code_line(
 {
     push_start(text, notation, name, at)?;
     push_text(text, notation, name, at, instruction)?;
+    text.push_str("\n")
+}
+
+/// Where a call with so much room enters the tail that functions share, from its beginning on: there is no loop to run
+/// where nothing is to be wiped.
+fn entry_text(room: u32) -> &'static str
+    ensures { result.now ≡ entry_text room }
+{
+    if room == 0 { "+24" } else { "" }
+}
+
+/// The jump to the tail that functions share, for a call with so much room.
+fn push_onward(text: &mut String, room: u32) -> Result<(), AllocError>
+    ensures { OnOk result (string_bytes text.new
+        ≡ string_bytes text.old ++ two_operands (codes "jal") (codes "x0") (tail_target room)) }
+{
+    text.push_str("jal x0, factc.tail.1")?;
+    text.push_str(entry_text(room))
+}
+
+/// Its line, at a position.
+pub(crate) fn push_onward_line(
+    text: &mut String,
+    notation: Notation,
+    name: &str,
+    at: u32,
+    room: u32,
+) -> Result<(), AllocError>
+    ensures { OnOk result (string_bytes text.new ≡ string_bytes text.old
+        ++ code_line notation name.now at (two_operands (codes "jal") (codes "x0") (tail_target room))) }
+{
+    push_start(text, notation, name, at)?;
+    push_onward(text, room)?;
     text.push_str("\n")
 }
 

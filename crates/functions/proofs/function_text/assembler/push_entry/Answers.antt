@@ -8,7 +8,8 @@ returns-clause-written c =
     entry_is c.args.notation (parts_of c.args.function.now) c.in_ok-distance.distance
     c.around_body-around.result.pace c.as_slice-2.result.now c.as_slice.result.now
     (c.as_slice-2.ensures.value ∙ c.in_ok-sections.ensures) (c.as_slice.ensures.value ∙ c.in_ok-leave.ensures)
-    c.around_body-around.ensures.pace c.in_ok-distance.ensures _ _ c.in_ok-end.ensures.written
+    c.around_body-around.ensures.pace c.in_ok-distance.ensures _ _
+    (rw c.as_str-name.ensures at c.in_ok-end.ensures.written)
 
 pub returns-clause-ends : goal.returns-clause-ends
 returns-clause-ends c =

@@ -36,9 +36,9 @@ loop-section-preserved c =
     let long : c.len.result ≡ length c.in_ok-code.code.items = search in
     let made = c.as_slice.ensures.value ∙ code in
     record {
-      text = text_on c.args.notation f c.args.distance sections i RoomAboveFrame some _ _ _ _ _ c.as_slice.result.now
+      text = text_on c.args.notation c.args.name.now f c.args.distance sections i RoomAboveFrame some _ _ _ _ _ c.as_slice.result.now
           c.in_ok-at.ensures.written made c.in_ok-at.ensures.ends held.text;
-      at = ends_on c.args.notation f c.args.distance sections i RoomAboveFrame some _ _ _ c.as_slice.result.now made
+      at = ends_on c.args.notation c.args.name.now f c.args.distance sections i RoomAboveFrame some _ _ _ c.as_slice.result.now made
           c.in_ok-at.ensures.ends held.at;
       left = left_on image pace sections i RoomAboveFrame some c.loop-section.left c.wrapped-left.result _ c.in_ok-code.code.items
           held.left code (c.wrapped-left.ensures ∙ ap (λ (n : ℕ). n % 2 ^ 32) long);
