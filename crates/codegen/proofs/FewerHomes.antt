@@ -26,12 +26,13 @@ use Rattle.codegen.specs.declared.expression_code.emit.NearPlace.{NearPlace}
 use Rattle.codegen.specs.expression_code.TermCode.{mirror_by, mirror_code, mirrored_at, mirrored_place, near_or, near_place}
 use Rattle.codegen.specs.expression_code.TermCode.{access_offset, computed_index, into_by, is_at_home, keeps_words}
 use Rattle.codegen.specs.expression_code.TermCode.{code_by, indexed_code, near_code, near_element, operand}
-use Rattle.codegen.specs.expression_code.TermCode.{opposite_in, reached_code, sum_offset}
+use Rattle.codegen.specs.expression_code.TermCode.{before_code, opposite_in, prefixed_code, reached_code, sum_offset}
 use Rattle.codegen.specs.declared.expression_code.frame_bytes.FrameBytes.{FrameBytes}
 use Rattle.codegen.specs.expression_code.FrameBytes.{frame_bytes, operated_bytes}
 use Rattle.codegen.specs.expression_code.NumberRows.{number_of}
 use Rattle.inline.specs.Flat as flat
-use Rattle.codegen.specs.Below.{BinaryOperator, Kind, Uint32}
+use Rattle.codegen.specs.Below.{BinaryOperator, Kind, Uint32, Width}
+use Rattle.language.specs.declared.operators.PrefixOperator.{PrefixOperator}
 use Rattle.codegen.specs.expression_code.Layout.{term_layout}
 
 pub neither_of_three : (a b c : Bool) → (a || (b || c)) ≡ false → (a ≡ false) × (b ≡ false) × (c ≡ false)
@@ -211,6 +212,12 @@ module _ (layout : Frame) (left_out : ℕ → Bool)
   indexed_same d place x index spares o into into' same =
       rw (at_home_same index spares, operand_same place index spares, same) refl
 
+  before_same : (d place : ℕ) (operator : PrefixOperator) (width : Width) (e : TermTree) → Spares (λ y. names_in y e)
+      → (into into' : List Instr) → into ≡ into' → before_code (term_layout fewer) d place operator width e into
+      ≡ before_code (term_layout layout) d place operator width e into'
+  before_same d place operator width e spares into into' same =
+      rw (at_home_same e spares, operand_same place e spares, same) refl
+
   mutual
     by_same : (other : Option BinaryOperator) (d place : ℕ) (e : TermTree) → Spares (λ y. names_in y e)
         → into_by (term_layout fewer) other d place e ≡ into_by (term_layout layout) other d place e
@@ -218,7 +225,7 @@ module _ (layout : Frame) (left_out : ℕ → Bool)
     by_same other d place (flat.truth value) spares = refl
     by_same other d place (flat.variable x) spares = rw (location_same x spares) refl
     by_same other d place (flat.prefix operator width e) spares =
-        rw (at_home_same e spares, operand_same place e spares, by_same None (own place) place e spares) refl
+        prefixed_same d place operator width e spares _ _ (by_same None (own place) place e spares)
     by_same other d place (flat.rotate width e amount) spares =
         rw (at_home_same e spares, operand_same place e spares, by_same None (own place) place e spares) refl
     by_same other d place (flat.convert kind e) spares =
@@ -255,6 +262,17 @@ module _ (layout : Frame) (left_out : ℕ → Bool)
           by_same None (own (place + 1)) (place + 1) accepted two,
           by_same None (own (place + 2)) (place + 2) otherwise three,
         )
+
+    prefixed_same : (d place : ℕ) (operator : PrefixOperator) (width : Width) (e : TermTree)
+        → Spares (λ y. names_in y e) → (into into' : List Instr) → into ≡ into'
+        → prefixed_code (term_layout fewer) d place operator width e into
+        ≡ prefixed_code (term_layout layout) d place operator width e into'
+    prefixed_same d place operator width (flat.binary source shift narrow left right) spares into into' same =
+        let one : Spares (λ y. names_in y left) = λ y out. (or_parts _ _ (spares y out)).0 in
+        let whole = before_same d place operator width (flat.binary source shift narrow left right) spares into into' same in
+        rw (at_home_same left one, operand_same place left one, by_same None (own place) place left one, whole) refl
+    prefixed_same d place operator width e spares into into' same =
+        before_same d place operator width e spares into into' same
 
     reached_same : (d place x : ℕ) (index : TermTree) → Spares (λ y. names_in y index) → (into into' : List Instr)
         → into ≡ into' → reached_code (term_layout fewer) d place x index into

@@ -20,5 +20,6 @@ pub mod Indices
 pub mod Mirrors
 pub mod Elements
 pub mod JoinedWords
+pub mod NodeRuns
 pub mod ExpressionRuns
 pub mod SiteRuns

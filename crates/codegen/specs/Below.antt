@@ -18,7 +18,7 @@ pub use Rattle.rv_code.specs.declared.operations.LoadOperation.TheVariants.{Lbu,
 pub use Rattle.rv_code.specs.declared.operations.MultiplyOperation.TheVariants.{Mul, Mulhu}
 pub use Rattle.rv_code.specs.declared.operations.RegisterOperation.TheVariants.{Add, And, Or, Sll, Sltu, Srl, Sub, Xor}
 pub use Rattle.rv_code.specs.declared.operations.ShiftOperation.{ShiftOperation}
-pub use Rattle.rv_code.specs.declared.operations.ShiftOperation.TheVariants.{Slli, Srli}
+pub use Rattle.rv_code.specs.declared.operations.ShiftOperation.TheVariants.{Slli, Srai, Srli}
 pub use Rattle.rv_code.specs.declared.operations.StoreOperation.{StoreOperation}
 pub use Rattle.rv_code.specs.declared.operations.StoreOperation.TheVariants.{Sb, Sh, Sw}
 pub use Rattle.rv_code.specs.declared.operations.UpperOperation.TheVariants.{Lui}

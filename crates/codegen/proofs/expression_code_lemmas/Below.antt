@@ -13,7 +13,7 @@ pub use Rattle.codegen.specs.expression_code.Layout.{control_location, control_o
 pub use Rattle.codegen.specs.expression_code.Layout.{temporaries_offset, variable_location, variable_offset}
 pub use Rattle.codegen.specs.expression_code.Layout.{offsets_from, slots_from}
 pub use Rattle.codegen.specs.expression_code.NumberRows.{held, is_short, known_row, left_row, number_of, number_row}
-pub use Rattle.codegen.specs.expression_code.NumberRows.{chooses_zero, is_known_zero, right_row}
+pub use Rattle.codegen.specs.expression_code.NumberRows.{chooses_zero, is_known, is_sign, right_row}
 pub use Rattle.codegen.specs.declared.expression_code.numbers.Finish.{Finish}
 pub use Rattle.codegen.specs.declared.expression_code.numbers.NumberRow.{NumberRow}
 pub use Rattle.codegen.specs.declared.expression_code.numbers.NumberStep.{NumberStep}
@@ -30,7 +30,7 @@ pub use Rattle.codegen.specs.expression_code.TermCode.{into_by, mask_code, numbe
 pub use Rattle.codegen.specs.expression_code.TermCode.{opposite_in, placed_code, sum_offset, reached_code}
 pub use Rattle.codegen.specs.expression_code.TermCode.{access_offset, added, computed_index, near_sum}
 pub use Rattle.codegen.specs.expression_code.TermCode.{in_frame, mirror_by, mirror_code, mirrored_at, mirrored_place}
-pub use Rattle.codegen.specs.expression_code.TermCode.{near_or, near_place}
+pub use Rattle.codegen.specs.expression_code.TermCode.{before_code, near_or, near_place, prefixed_code, sign_code}
 pub use Rattle.branch_removal.specs.Heights.{height_of}
 pub use Rattle.codegen.specs.declared.expression_code.locations.Location.{Location}
 pub use Rattle.codegen.specs.declared.expression_code.locations.Location.TheVariants.{InRegister, InSlot}

@@ -14,7 +14,7 @@ use Rattle.codegen.proofs.expression_code_lemmas.Below.{kind_at, known_row, left
 use Rattle.codegen.proofs.expression_code_lemmas.Below.{nat_tests, near_element, near_offset, number_code, number_of}
 use Rattle.codegen.proofs.expression_code_lemmas.Below.{number_row, NumberRow, of_number, of_truth, and_mask}
 use Rattle.codegen.proofs.expression_code_lemmas.Below.{both_right, only_computes, operated, path_in, Place}
-use Rattle.codegen.proofs.expression_code_lemmas.Below.{registers_after, chooses_zero, false≢true, is_known_zero}
+use Rattle.codegen.proofs.expression_code_lemmas.Below.{registers_after, chooses_zero, false≢true, is_known}
 use Rattle.codegen.proofs.expression_code_lemmas.Below.{right_row, shift_value, sign_extended, TermTree, swapped_of}
 use Rattle.codegen.proofs.expression_code_lemmas.Below.{Types, value_in, Values, variable_offset, Width, word_of}
 use Rattle.codegen.proofs.expression_code_lemmas.Below.{added, immediate_value, near_sum, sum_offset}
@@ -134,13 +134,17 @@ left_known a operator e row is = by_swapped (swapped_of operator) refl (when_som
         record { other = other; is = f; numbered = numbered_by other e row (number_of e) refl same }
     by_swapped None f same = absurd (none-some row same)
 
+-- what an expression is that is known to be a number
+pub number_known : (n : ℕ) (e : TermTree) → is_known n (number_of e) ≡ true → number_of e ≡ Some n
+number_known n e is = by_number (number_of e) is
+  where
+    by_number : (o : Option ℕ) → is_known n o ≡ true → o ≡ Some n
+    by_number (Some m) same = ap Some (eqb-true m n same)
+    by_number None same = absurd (false≢true same)
+
 -- what the third operand is of a choice between a value and 0
 pub zero_known : (a : Allocation) (e : TermTree) → chooses_zero a e ≡ true → number_of e ≡ Some 0
-zero_known a e is = by_number (number_of e) (both_right a.immediates _ is)
-  where
-    by_number : (m : Option ℕ) → is_known_zero m ≡ true → m ≡ Some 0
-    by_number (Some n) same = ap Some (eqb-true n 0 same)
-    by_number None same = absurd (false≢true same)
+zero_known a e is = number_known 0 e (both_right a.immediates _ is)
 
 -- the index that an expression is, whose element lies at an offset that its access holds
 pub record NearElement (declared : List FlatVariable) (x : ℕ) (index : TermTree) (o : ℕ) : Type 0 where

@@ -1,22 +1,27 @@
 -- Of each piece of emitted code that only computes: that it does (`plain`), into registers that work, and what it
 -- makes in its target, which is what its node means (`made`).
 use Rattle.std.proofs.Common.{◌≡◌, ◌≢◌, ℕ, ◌+◌, ◌-◌, ◌*◌, ◌/◌, ◌%◌, ◌^◌, ◌<◌, ◌≤◌, ◌==◌, ◌||◌, nat_lt, Bool, true}
+use Rattle.std.proofs.Common.{inl, inr, suc}
 use Rattle.std.proofs.Common.{false, cond, List, [], ◌∷◌, ◌++◌, refl, sym, ap, ap₂, ◌∙◌, arith, subst, eq-eqb, ne_eqb}
-use Rattle.std.proofs.lemmas.Bool.{cond_both}
+use Rattle.std.proofs.lemmas.Bool.{cases_lt, cond_both, le-ltb}
+use Rattle.std.proofs.lemmas.Int.{to_z_pos}
 use Rattle.std.proofs.lemmas.Nat.{and_mask, mod_below, pow_pos}
 use Rattle.codegen.proofs.expression_code_lemmas.Below.{after_append, between, BinaryOperator, bits, choice_code}
 use Rattle.codegen.proofs.expression_code_lemmas.Below.{choice_or_zero_code, constant_code, convert_code, converted}
 use Rattle.codegen.proofs.expression_code_lemmas.Below.{cut_code, eqb-true, false≢true, fun_ext, immediate_value, Instr}
 use Rattle.codegen.proofs.expression_code_lemmas.Below.{lt-ltb, move_code, multiply_value, narrow_code, narrowed_in}
 use Rattle.codegen.proofs.expression_code_lemmas.Below.{nat_tests, of_truths, only_computes, operated, operator_code}
-use Rattle.codegen.proofs.expression_code_lemmas.Below.{plain_append, prefix_code, prefix_value, PrefixOperator}
+use Rattle.codegen.proofs.expression_code_lemmas.Below.{plain_append, prefix_code, prefix_value, PrefixOperator, sign_code}
 use Rattle.codegen.proofs.expression_code_lemmas.Below.{register_left, register_value, registers_after, rotated_left}
 use Rattle.codegen.proofs.expression_code_lemmas.Below.{row_of, shift_value, sign_extended, RowStep, swapped, Width}
 use Rattle.codegen.proofs.expression_code_lemmas.Below.{with_register, word_of}
 use Rattle.rv_code.specs.declared.instructions.Instr.TheVariants as instr
 use Rattle.codegen.specs.Below.{Addi, Andi, LogicalAnd, Divide, HighProduct, LogicalOr, Mul, Multiply, Remainder}
 use Rattle.codegen.specs.Below.{ShiftLeft}
-use Rattle.codegen.specs.Below.{ShiftRight, Slli, Srli, Subtract, W16, W32, W8}
+use Rattle.codegen.specs.Below.{ShiftRight, Slli, Srai, Srli, Subtract, W16, W32, W8}
+use Rattle.rv_code.specs.Signed.{signed, word_for}
+use Rattle.std.specs.Int.{int_shr, w32}
+use Rattle.std.specs.Prelude.{negsuc}
 use Rattle.rv_code.specs.declared.operations.RegisterOperation.TheVariants as register
 use Rattle.language.specs.declared.operators.BinaryOperator.TheVariants.{Add}
 use Rattle.language.specs.declared.operators.PrefixOperator.TheVariants.{Not, Complement, Negate}
@@ -61,6 +66,21 @@ cut_complement width b fits = omega arith
 one_less : (b : ℕ) → b < 2 ^ 32 → immediate_value Addi (register_value register.Sub 0 b) (sign_extended 12 4095)
     ≡ (2 ^ 32 - 1 - b) % 2 ^ 32
 one_less b fits = omega arith
+
+-- 0 less the top bit of a word, that bit in the place of each
+top_bit : (w : Width) (v : ℕ) → v < 2 ^ 32 → operated ShiftRight w v 31 ≡ v / 2 ^ 31
+top_bit W8 v fits = omega arith
+top_bit width v fits = omega arith
+
+signed_high : (v : ℕ) → 2 ^ 31 ≤ v → signed v ≡ negsuc (2 ^ 32 - suc v)
+signed_high v high = rw (le-ltb v (2 ^ 31) high) refl
+
+signed_less : (w : Width) (v : ℕ) → v < 2 ^ 32
+    → shift_value Srai v 31 ≡ prefix_value Negate W32 (operated ShiftRight w v 31)
+signed_less w v fits = elim (cases_lt v (2 ^ 31)) [
+  | inl low ↦ ap (λ z. word_for (int_shr z 31)) (to_z_pos w32 v low) ∙ omega (arith, low, top_bit w v fits)
+  | inr high ↦ ap (λ z. word_for (int_shr z 31)) (signed_high v high) ∙ omega (arith, high, fits, top_bit w v fits)
+]
 
 narrow : (w : Width) → (0 < bits w) × (bits w ≤ 32)
 narrow W8 = (omega arith, omega arith)
@@ -229,6 +249,13 @@ module _ {d t : ℕ} (pair : ArePair d t) where
             let less : 0 + (2 ^ bits w - v % 2 ^ bits w) ≡ 2 ^ bits w - v % 2 ^ bits w = omega arith in
             cut_composed w _ ∙ simp (dd, d0, q0 source) (cut_whole w (0 + (2 ^ 32 - v % 2 ^ 32))
             ∙ (cut_difference w 0 v fits ∙ ap (λ x. x % 2 ^ bits w) less));
+      }
+
+      pub sign_applies : (w : Width)
+          → Applies works q (2 ^ 32) d (sign_code d q) (λ v. prefix_value Negate W32 (operated ShiftRight w v 31))
+      sign_applies w = record {
+        plain = simp (d32, q32 source, wd);
+        made = λ regs fits. simp (dd, d0, q0 source) (signed_less w (regs q) fits);
       }
 
       around_applies : q ≢ t → (w : Width) (amount : ℕ) → amount < bits w

@@ -19,7 +19,7 @@ use Rattle.codegen.proofs.expression_code_lemmas.Below.{prefix_code, PrefixOpera
 use Rattle.codegen.proofs.expression_code_lemmas.Below.{right_row, rotate, rotate_code, row_of, scale_code, select}
 use Rattle.codegen.proofs.expression_code_lemmas.Below.{step_code, store_code, temporary, term_nodes, TermTree, Types}
 use Rattle.codegen.proofs.expression_code_lemmas.Below.{types_of, variable, variable_location, Width, WordType}
-use Rattle.codegen.proofs.expression_code_lemmas.Below.{working_register, sum_offset}
+use Rattle.codegen.proofs.expression_code_lemmas.Below.{working_register, sum_offset, is_sign}
 use Rattle.codegen.specs.expression_code.FrameBytes.{joined_word}
 use Rattle.codegen.specs.Below.{Boolean, LogicalAnd, LogicalOr, Multiply, W8}
 use Rattle.codegen.specs.declared.expression_code.numbers.Finish.TheVariants.{Narrowed}
@@ -171,6 +171,14 @@ module _ (layout : TermLayout) where
       → length (into_by layout other d place e) ≤ 16 * term_nodes e - 3
   into_short other d place (variable x) =
       omega (arith, copy_length d (variable_location layout.declared layout.allocation x))
+  into_short other d place (prefix operator width (binary source shift narrow one two)) =
+      let e = binary source shift narrow one two in
+      let left = placed_length None place one (into_short None (own place) place one) in
+      let short = into_short None (own place) place (binary source shift narrow one two) in
+      let whole = placed_length None place e short in
+      one_of (is_sign layout.allocation operator width shift two) _ _ _
+      (omega (arith, length-append {A = Instr}, left, fetch_length))
+      (omega (arith, length-append {A = Instr}, whole, fetch_length, prefix_length))
   into_short other d place (prefix operator width e) =
       let placed = placed_length None place e (into_short None (own place) place e) in
       omega (arith, length-append {A = Instr}, placed, fetch_length, prefix_length)

@@ -3,15 +3,16 @@
 use Rattle.std.proofs.Common.{◌≡◌, ℕ, List, [], ◌∷◌, true, false, None, Some, refl}
 use Rattle.std.specs.Int.Count.{count_leading_zeros}
 use Rattle.codegen.proofs.expression_code_lemmas.Below.{Allocation, binary, convert, element, expr_code, FlatVariable}
-use Rattle.codegen.proofs.expression_code_lemmas.Below.{Instr, into_code, Place, rotate, select, TermTree, variable}
+use Rattle.codegen.proofs.expression_code_lemmas.Below.{Instr, into_code, Place, prefix, rotate, select, TermTree, variable}
 use Rattle.codegen.proofs.expression_code_lemmas.Below.{word_as, WordType}
 use Rattle.codegen.specs.expression_code.Allocation.{plain}
 use Rattle.codegen.specs.Below.{Addi, Andi, array_as, BitAnd, BitOr, GreaterOrEqual, Lbu, Less, LogicalAnd}
 use Rattle.codegen.specs.Below.{LessOrEqual, Lui, Lw}
 use Rattle.codegen.specs.Below.{Mul, Multiply, number}
-use Rattle.codegen.specs.Below.{ShiftLeft, Slli, Sltiu, Srli, Subtract, Uint32, Uint8, Unequal, W32}
+use Rattle.codegen.specs.Below.{ShiftLeft, ShiftRight, Slli, Sltiu, Srai, Srli, Subtract, Uint32, Uint8, Unequal, W32}
 use Rattle.language.specs.declared.signature.Label.TheVariants.{Public}
 use Rattle.language.specs.declared.operators.BinaryOperator.TheVariants.{Add}
+use Rattle.language.specs.declared.operators.PrefixOperator.TheVariants.{Negate}
 use Rattle.codegen.specs.expression_code.Layout.{TermLayout}
 use Rattle.rv_code.specs.declared.instructions.Instr.TheVariants as instr
 use Rattle.rv_code.specs.declared.operations.RegisterOperation.TheVariants as register
@@ -158,6 +159,18 @@ module _ (place : Place) where
 
   decrement : code with_numbers (binary place Subtract W32 a (n 1)) ≡ instr.Immediate Addi 5 13 4095 ∷ []
   decrement = refl
+
+  -- 0 less the top bit of a word, and less the bit below it
+  sign : code with_numbers (prefix Negate W32 (binary place ShiftRight W32 a (n 31))) ≡ instr.Shift Srai 5 13 31 ∷ []
+  sign = refl
+
+  no_sign : code with_numbers (prefix Negate W32 (binary place ShiftRight W32 a (n 30)))
+      ≡ instr.Shift Srli 5 13 30 ∷ instr.Register register.Sub 5 0 5 ∷ []
+  no_sign = refl
+
+  sign_plain : code both_home (prefix Negate W32 (binary place ShiftRight W32 a b))
+      ≡ instr.Register register.Srl 5 13 14 ∷ instr.Register register.Sub 5 0 5 ∷ []
+  sign_plain = refl
 
   -- 2048 is too large, but can be taken away
   too_large : code with_numbers (binary place Add W32 a (n 2048)) ≡ instr.Upper Lui 6 1

@@ -10,8 +10,10 @@ use Rattle.codegen.specs.declared.expression_code.numbers.NumberRow.{NumberRow}
 use Rattle.codegen.specs.declared.expression_code.numbers.NumberStep.TheVariants.{WithImmediate, ByAmount, AboveZero}
 use Rattle.codegen.specs.declared.expression_code.numbers.NumberStep.TheVariants.{KeepsLow}
 use Rattle.codegen.specs.Below.{Addi, Andi, BinaryOperator, ImmediateOperation, negated, number, Ori, ShiftOperation}
-use Rattle.codegen.specs.Below.{Slli, Sltiu, Srli, TermTree, truth, swapped_of, W32, Xori}
+use Rattle.codegen.specs.Below.{Slli, Sltiu, Srli, TermTree, truth, swapped_of, W32, Width, Xori}
 use Rattle.language.specs.declared.operators.BinaryOperator.TheVariants as operators
+use Rattle.language.specs.declared.operators.PrefixOperator.{PrefixOperator}
+use Rattle.language.specs.declared.operators.PrefixOperator.TheVariants as prefixes
 use Rattle.word.specs.Operators.{word_of}
 
 -- the word that an expression is known to be
@@ -80,12 +82,19 @@ abbrev pub left_row : Allocation → BinaryOperator → TermTree → Option Numb
 left_row allocation operator e = if allocation.immediates
     then known_row (swapped_of operator) (number_of e) else None
 
--- whether a word is known, and is 0
-abbrev pub is_known_zero : Option ℕ → Bool
-is_known_zero None = false
-is_known_zero (Some n) = n == 0
+-- whether a word is known, and is this number
+abbrev pub is_known : ℕ → Option ℕ → Bool
+is_known n None = false
+is_known n (Some m) = m == n
 
 -- whether a choice, whose third operand is this expression, is one between a value and 0, where numbers go into
 -- instructions
 abbrev pub chooses_zero : Allocation → TermTree → Bool
-chooses_zero allocation e = allocation.immediates && is_known_zero (number_of e)
+chooses_zero allocation e = allocation.immediates && is_known 0 (number_of e)
+
+-- whether an operator before another one, whose right operand is this expression, makes 0 less a word that is moved
+-- down by 31 bits, where numbers go into instructions
+abbrev pub is_sign : Allocation → PrefixOperator → Width → BinaryOperator → TermTree → Bool
+is_sign allocation prefixes.Negate W32 operators.ShiftRight amount =
+    allocation.immediates && is_known 31 (number_of amount)
+is_sign allocation before width operator right = false

@@ -8,7 +8,7 @@ use Rattle.codegen.specs.declared.expression_code.allocation.Mirror.{Mirror}
 use Rattle.codegen.specs.declared.expression_code.emit.NearPlace.{NearPlace}
 pub use Rattle.codegen.specs.expression_code.NearElements.{is_near, kind_at, near_offset, near_element}
 use Rattle.codegen.specs.expression_code.FrameBytes.{joined_word}
-use Rattle.codegen.specs.expression_code.NumberRows.{number_of, right_row, left_row, chooses_zero}
+use Rattle.codegen.specs.expression_code.NumberRows.{number_of, right_row, left_row, chooses_zero, is_sign}
 use Rattle.codegen.specs.declared.expression_code.numbers.Finish.{Finish}
 use Rattle.codegen.specs.declared.expression_code.numbers.Finish.TheVariants.{Alone, GivesZero, GivesMore, Narrowed}
 use Rattle.codegen.specs.declared.expression_code.numbers.NumberRow.{NumberRow}
@@ -22,7 +22,7 @@ use Rattle.codegen.specs.expression_code.Registers.{second_spare, third_spare}
 use Rattle.codegen.specs.Below.{Add, Addi, And, Andi, binary, BinaryOperator, bits, Boolean, convert, Divu, element}
 use Rattle.codegen.specs.Below.{element_bytes, FlatVariable, Immediate, Instr, Kind, Lbu, Lhu, Load, LoadOperation, Lui}
 use Rattle.codegen.specs.Below.{Lw, Mul, Mulhu, number, opposite_of, Or, prefix, Register, Remu, rotate, select, Shift}
-use Rattle.codegen.specs.Below.{negated, Sll, Slli, Sltiu}
+use Rattle.codegen.specs.Below.{negated, Sll, Slli, Sltiu, Srai}
 use Rattle.codegen.specs.Below.{Sltu, Srl, Srli, Store, Sub, Sw, TermTree, truth, Uint16, Uint32, Uint8, Upper}
 use Rattle.codegen.specs.Below.{variable, W16, W32, W8, Width, width_of, Xor}
 use Rattle.rv_code.specs.declared.instructions.Instr.TheVariants.{Multiply, Divide}
@@ -229,6 +229,10 @@ prefix_code d r prefixes.Not w = is_zero_code d r
 prefix_code d r prefixes.Complement w = negation_code d r ++ Immediate Addi d d 4095 ∷ cut_code d w
 prefix_code d r prefixes.Negate w = negation_code d r ++ cut_code d w
 
+-- the top bit of a word in the place of each, which is 0 less that bit: what a shift that keeps the sign leaves
+abbrev pub sign_code : ℕ → ℕ → List Instr
+sign_code d r = Shift Srai d r 31 ∷ []
+
 -- its bits moved up by an amount below the width, and those that go past its end back in at the bottom
 abbrev pub around_code : ℕ → ℕ → Width → ℕ → List Instr
 around_code d r w amount =
@@ -411,6 +415,12 @@ module _ (layout : TermLayout) where
       if is_at_home layout.allocation e then []
       else into ++ keep_code (temporary layout.allocation.count layout.free place)
 
+  -- an operator before an operand in its place, to which this code brings it
+  abbrev pub before_code : ℕ → ℕ → PrefixOperator → Width → TermTree → List Instr → List Instr
+  before_code d place operator width e into =
+      placed_code place e into ++ fetch_operand place e first_spare
+      ++ prefix_code d (operand_register place e first_spare) operator width
+
   -- the element at an index in its place, to which this code brings it, of an array at an offset
   abbrev pub indexed_code : ℕ → ℕ → ℕ → TermTree → List Instr → ℕ → List Instr
   indexed_code d place x index into offset =
@@ -427,8 +437,7 @@ module _ (layout : TermLayout) where
     into_by other d place (truth value) = constant_code d (word_of value)
     into_by other d place (variable x) = copy_code d (variable_location layout.declared layout.allocation x)
     into_by other d place (prefix operator width e) =
-        placed_code place e (into_by None (own_register place) place e) ++ fetch_operand place e first_spare
-        ++ prefix_code d (operand_register place e first_spare) operator width
+        prefixed_code d place operator width e (into_by None (own_register place) place e)
     into_by other d place (binary source own width left right) =
         let operator = unwrap_or other own in
         code_by (joined_word layout.declared layout.allocation operator width left right) (λ offset. load_code d offset)
@@ -472,6 +481,15 @@ module _ (layout : TermLayout) where
     into_by other d place (element source x size index) =
         code_by (near_place layout.declared layout.allocation x index) (near_code d (kind_at layout.declared x))
         (reached_code d place x index (into_by None (own_register place) place index))
+
+    -- an operator before an operand whose own code this is; of 0 less the top bit of a word only the word is computed
+    pub prefixed_code : ℕ → ℕ → PrefixOperator → Width → TermTree → List Instr → List Instr
+    prefixed_code d place operator width (binary source own narrow left right) into =
+        if is_sign layout.allocation operator width own right
+        then placed_code place left (into_by None (own_register place) place left)
+        ++ fetch_operand place left first_spare ++ sign_code d (operand_register place left first_spare)
+        else before_code d place operator width (binary source own narrow left right) into
+    prefixed_code d place operator width e into = before_code d place operator width e into
 
     -- the element at an index that is not near, whose own code this is; of a sum with a number that the access holds
     -- only the left operand is computed

@@ -7,6 +7,7 @@ ghost use Rattle.codegen.specs.expression_code.Registers.{first_spare, second_sp
 ghost use Rattle.codegen.specs.expression_code.TermCode.{into_code, expr_code, operand, fetch_code};
 ghost use Rattle.codegen.specs.expression_code.TermCode.{choice_or_zero_code, into_by, IsAmong, opposite_in};
 ghost use Rattle.codegen.specs.expression_code.TermCode.{own_register, placed_code, reached_code, indexed_code};
+ghost use Rattle.codegen.specs.expression_code.TermCode.{prefixed_code};
 ghost use Rattle.codegen.specs.Below.{height_of, term_tree};
 
 use crate::expression_code::frame_bytes::joined_word;
@@ -14,14 +15,15 @@ use crate::expression_code::layout::Layout;
 use crate::expression_code::locations::{
     FIRST_SPARE, SECOND_SPARE, THIRD_SPARE, copy, fetch, keep,
 };
-use crate::expression_code::numbers::{chooses_zero, left_row, right_row};
+use crate::expression_code::numbers::{chooses_zero, is_sign, left_row, right_row};
 use crate::expression_code::operators::{ChoiceOperands, OperandRegisters};
 use crate::expression_code::truths::{emitted, opposite_in};
 use crate::expression_code::{emit, operators};
 use inline::Term;
-use language::BinaryOperator;
+use language::{BinaryOperator, PrefixOperator};
 use rv_code::{Instr, Reg};
 use std::alloc::AllocError;
+use word::Width;
 
 /// How many temporaries an expression has at once, beside the one that it comes into.
 pub fn height(term: &Term) -> u32
@@ -213,8 +215,7 @@ fn into_by(
         Term::Truth(value) => emit::constant(code, target, u32::from(*value)),
         Term::Variable(number) => copy(code, target, &layout.variable_location(*number)),
         Term::Prefix(operator, width, operand) => {
-            let register = evaluated(layout, code, place, operand)?;
-            operators::prefix(code, target, register, *operator, *width)
+            prefixed(layout, code, target, place, *operator, *width, operand)
         }
         Term::Binary(_, own, width, left, right) => {
             let operator = other.unwrap_or(*own);
@@ -266,6 +267,35 @@ fn into_by(
             reached(layout, code, target, place, *array, index)
         }
     }
+}
+
+/// An operator before an operand, into a register. Of 0 less the top bit of a word only the word is computed.
+#[cycle(expressions)]
+fn prefixed(
+    layout: &Layout<'_>,
+    code: &mut Vec<Instr>,
+    target: Reg,
+    place: u32,
+    operator: PrefixOperator,
+    width: Width,
+    operand: &Term,
+) -> Result<(), AllocError>
+    requires among { IsAmong (length layout.now.declared) (term_tree operand.now) }
+    requires room { temporaries_offset layout.now
+        + 4 * slots_to layout.now.allocation.count (height_of (term_tree operand.now) + place) ≤ 65536 }
+    ensures { let terms = term_layout layout.now in
+        OnOk result (code.new.items ≡ code.old.items
+        ++ prefixed_code terms target place operator width (term_tree operand.now)
+        (into_by terms None (own_register terms place) place (term_tree operand.now))) }
+{
+    if let Term::Binary(_, own, _, left, right) = operand {
+        if is_sign(layout, operator, width, *own, right) {
+            let register = evaluated(layout, code, place, left)?;
+            return operators::sign(code, target, register);
+        }
+    }
+    let register = evaluated(layout, code, place, operand)?;
+    operators::prefix(code, target, register, operator, width)
 }
 
 /// The element of an array at an index that is not near, into a register. Of a sum with a number that the access holds

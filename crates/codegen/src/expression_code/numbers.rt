@@ -3,13 +3,13 @@
 ghost use Rattle.std.specs.Prelude.{◌≡◌};
 ghost use Rattle.codegen.specs.expression_code.NumberRows.{number_of, is_short, held, shifted, above_zero, low_bits};
 ghost use Rattle.codegen.specs.expression_code.NumberRows.{masked, number_row, right_row, left_row};
-ghost use Rattle.codegen.specs.expression_code.NumberRows.{chooses_zero};
+ghost use Rattle.codegen.specs.expression_code.NumberRows.{chooses_zero, is_sign};
 ghost use Rattle.codegen.specs.Below.{term_tree};
 
 use crate::expression_code::emit::NEAR;
 use crate::expression_code::layout::Layout;
 use inline::Term;
-use language::BinaryOperator;
+use language::{BinaryOperator, PrefixOperator};
 use rv_code::{Immediate12, ImmediateOperation, ShiftAmount, ShiftOperation};
 use word::{Width, negate};
 
@@ -178,4 +178,23 @@ pub fn chooses_zero(layout: &Layout<'_>, otherwise: &Term) -> bool
     ensures { result ≡ chooses_zero layout.now.allocation (term_tree otherwise.now) }
 {
     layout.immediates() && matches!(number(otherwise), Some(0))
+}
+
+/// Whether an operator before another one, whose right operand is this expression, makes 0 less a word that is moved
+/// down by 31 bits.
+pub fn is_sign(
+    layout: &Layout<'_>,
+    before: PrefixOperator,
+    width: Width,
+    operator: BinaryOperator,
+    right: &Term,
+) -> bool
+    ensures { result ≡ is_sign layout.now.allocation before width operator (term_tree right.now) }
+{
+    match (before, width, operator) {
+        (PrefixOperator::Negate, Width::W32, BinaryOperator::ShiftRight) => {
+            layout.immediates() && matches!(number(right), Some(31))
+        }
+        _ => false,
+    }
 }

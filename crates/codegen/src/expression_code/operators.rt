@@ -6,7 +6,7 @@ ghost use Rattle.codegen.specs.expression_code.TermCode.{move_code, cut_code, na
 ghost use Rattle.codegen.specs.expression_code.TermCode.{is_zero_code, is_not_zero_code, negation_code, step_code};
 ghost use Rattle.codegen.specs.expression_code.TermCode.{finish_code, operator_code, number_step_code, number_code};
 ghost use Rattle.codegen.specs.expression_code.TermCode.{prefix_code, around_code, rotate_code, choice_code};
-ghost use Rattle.codegen.specs.expression_code.TermCode.{choice_or_zero_code, mask_code};
+ghost use Rattle.codegen.specs.expression_code.TermCode.{choice_or_zero_code, mask_code, sign_code};
 ghost use Rattle.codegen.specs.Below.{Addi, bits, Immediate, width_of};
 
 use crate::expression_code::emit::{MINUS_ONE, append};
@@ -290,6 +290,14 @@ pub fn prefix(
             cut(code, d, width)
         }
     }
+}
+
+/// The top bit of a register in the place of each, into another.
+pub fn sign(code: &mut Vec<Instr>, d: Reg, r: Reg) -> Result<(), AllocError>
+    ensures { OnOk result (code.new.items ≡ code.old.items ++ sign_code d r) }
+{
+    let others = ShiftAmount::from_bits(31);
+    append(code, Instr::Shift(ShiftOperation::Srai, d, r, others))
 }
 
 /// A register's bits, moved up by an amount below the width and round its end, into another.
