@@ -1,11 +1,12 @@
 -- Arithmetic of addresses, of numbers in two parts, and of masks.
-use Rattle.std.proofs.Common.{◌≡◌, ℕ, ◌+◌, ◌*◌, ◌%◌, ◌^◌, ◌<◌, ◌==◌, Bool, true, false, not, ◌&&◌, if◌then◌else◌}
-use Rattle.std.proofs.Common.{bit_and, bit_xor, refl, ap, ◌∙◌, arith}
+use Rattle.std.proofs.Common.{◌≡◌, ℕ, ◌+◌, ◌-◌, ◌*◌, ◌%◌, ◌^◌, ◌<◌, ◌==◌, Bool, true, false, not, ◌&&◌, if◌then◌else◌}
+use Rattle.std.proofs.Common.{bit_and, bit_xor, refl, sym, ap, ◌∙◌, arith}
 use Rattle.codegen.proofs.expression_code_lemmas.Below.{lower_part, nat_tests, upper_part, and_mask, xor_of_32, sum_of}
 use Rattle.codegen.proofs.expression_code_lemmas.Below.{difference_of, sign_extended}
-use Rattle.std.specs.Int.{bit_at}
+use Rattle.std.specs.Int.{bit_at, w32}
 use Rattle.std.specs.Int.Bits.{and_zero_r, xor_zero_r}
-use Rattle.std.proofs.lemmas.Nat.Bits.{bit_at_xor, bit_at-lt, same_from_bits}
+use Rattle.std.proofs.lemmas.Nat.Bits.{bit_at_not, bit_at_ones, bit_at_xor, bit_at-lt, same_from_bits}
+use Rattle.std.proofs.lemmas.Nat.Bits.{same_from_bits_below}
 
 -- the upper and the lower part make the number
 pub parts : (n : ℕ) → n < 2 ^ 32 → sum_of (upper_part n * 2 ^ 12) (sign_extended 12 (lower_part n)) ≡ n
@@ -54,6 +55,16 @@ bit_back a b i =
     bit_at_xor b (bit_xor a b) i
     ∙ (ap (λ x. (bit_at b i + x) % 2) (bit_at_xor a b i)
     ∙ omega (arith, bit_at-lt a i, bit_at-lt b i))
+
+-- where each bit is changed
+pub all_changed : (x : ℕ) → x < 2 ^ 32 → bit_xor x 4294967295 ≡ 2 ^ 32 - 1 - x
+all_changed x below =
+    same_from_bits_below 32 (bit_xor x 4294967295) (2 ^ 32 - 1 - x) (xor_of_32 x 4294967295 below (omega arith))
+    (omega arith)
+    (λ i within.
+    let changed : (bit_at x i + 1) % 2 ≡ 1 - bit_at x i = omega (arith, bit_at-lt x i) in
+    bit_at_xor x 4294967295 i
+    ∙ (ap (λ b. (bit_at x i + b) % 2) (bit_at_ones 32 i within) ∙ (changed ∙ sym (bit_at_not w32 x i below within))))
 
 all_ones : (x : ℕ) → x < 2 ^ 32 → bit_and x 4294967295 ≡ x
 all_ones x below = omega (arith, and_mask x 32)

@@ -30,7 +30,8 @@ pub use Rattle.codegen.specs.expression_code.TermCode.{into_by, mask_code, numbe
 pub use Rattle.codegen.specs.expression_code.TermCode.{opposite_in, placed_code, sum_offset, reached_code}
 pub use Rattle.codegen.specs.expression_code.TermCode.{access_offset, added, computed_index, near_sum}
 pub use Rattle.codegen.specs.expression_code.TermCode.{in_frame, mirror_by, mirror_code, mirrored_at, mirrored_place}
-pub use Rattle.codegen.specs.expression_code.TermCode.{before_code, near_or, near_place, prefixed_code, sign_code}
+pub use Rattle.codegen.specs.expression_code.TermCode.{before_code, complement_code, near_or, near_place}
+pub use Rattle.codegen.specs.expression_code.TermCode.{prefixed_code, sign_code}
 pub use Rattle.branch_removal.specs.Heights.{height_of}
 pub use Rattle.codegen.specs.declared.expression_code.locations.Location.{Location}
 pub use Rattle.codegen.specs.declared.expression_code.locations.Location.TheVariants.{InRegister, InSlot}

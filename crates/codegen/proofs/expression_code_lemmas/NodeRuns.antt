@@ -189,8 +189,9 @@ module _ (z : Setting) (free : ℕ) (aligned : free % 4 ≡ 0) (above : base_of 
         (into_code (terms_at z free) (working_register count place 29) place e))
     before_runs {e = e} operator width has room runs =
         let r = found slots place e 29 in
-        applied has room (omega (arith, prefix_length d r operator width))
-        (prefix_applies spare works own spare_own (found_free slots place 0 e (omega arith)) operator width)
+        applied has room (omega (arith, prefix_length z.allocation.immediates d r operator width))
+        (prefix_applies spare works own spare_own (found_free slots place 0 e (omega arith)) z.allocation.immediates
+        operator width)
         (λ m. refl)
         runs
 

@@ -18,14 +18,14 @@ use Rattle.codegen.proofs.expression_code_lemmas.Below.{with_register, word_of}
 use Rattle.rv_code.specs.declared.instructions.Instr.TheVariants as instr
 use Rattle.codegen.specs.Below.{Addi, Andi, LogicalAnd, Divide, HighProduct, LogicalOr, Mul, Multiply, Remainder}
 use Rattle.codegen.specs.Below.{ShiftLeft}
-use Rattle.codegen.specs.Below.{ShiftRight, Slli, Srai, Srli, Subtract, W16, W32, W8}
+use Rattle.codegen.specs.Below.{ShiftRight, Slli, Srai, Srli, Subtract, W16, W32, W8, Xori}
 use Rattle.rv_code.specs.Signed.{signed, word_for}
 use Rattle.std.specs.Int.{int_shr, w32}
 use Rattle.std.specs.Prelude.{negsuc}
 use Rattle.rv_code.specs.declared.operations.RegisterOperation.TheVariants as register
 use Rattle.language.specs.declared.operators.BinaryOperator.TheVariants.{Add}
 use Rattle.language.specs.declared.operators.PrefixOperator.TheVariants.{Not, Complement, Negate}
-use Rattle.codegen.proofs.expression_code_lemmas.Arithmetic.{parts, chosen, chosen_or_zero}
+use Rattle.codegen.proofs.expression_code_lemmas.Arithmetic.{all_changed, parts, chosen, chosen_or_zero}
 use Rattle.codegen.proofs.expression_code_lemmas.WorkRegisters.{IsFree, ArePair}
 
 -- Numbers, into any register that works.
@@ -81,6 +81,11 @@ signed_less w v fits = elim (cases_lt v (2 ^ 31)) [
   | inl low ↦ ap (λ z. word_for (int_shr z 31)) (to_z_pos w32 v low) ∙ omega (arith, low, top_bit w v fits)
   | inr high ↦ ap (λ z. word_for (int_shr z 31)) (signed_high v high) ∙ omega (arith, high, fits, top_bit w v fits)
 ]
+
+ones_changed : (b : ℕ) → b < 2 ^ 32 → immediate_value Xori b (sign_extended 12 4095) ≡ (2 ^ 32 - 1 - b) % 2 ^ 32
+ones_changed b fits =
+    let below : 2 ^ 32 - 1 - b ≡ (2 ^ 32 - 1 - b) % 2 ^ 32 = omega arith in
+    all_changed b fits ∙ below
 
 narrow : (w : Width) → (0 < bits w) × (bits w ≤ 32)
 narrow W8 = (omega arith, omega arith)
@@ -231,18 +236,23 @@ module _ {d t : ℕ} (pair : ArePair d t) where
         made = λ regs fits. simp (dd, d0, q0 source) (cut_computes width (regs q) fits);
       }
 
-      pub prefix_applies : (operator : PrefixOperator) (w : Width)
-          → Applies works q (2 ^ 32) d (prefix_code d q operator w) (prefix_value operator w)
-      prefix_applies Not w = record {
+      pub prefix_applies : (immediates : Bool) (operator : PrefixOperator) (w : Width)
+          → Applies works q (2 ^ 32) d (prefix_code immediates d q operator w) (prefix_value operator w)
+      prefix_applies immediates Not w = record {
         plain = simp (d32, q32 source, wd);
         made = λ regs fits. simp (dd, d0, q0 source) (grind (arith, nat_tests));
       }
-      prefix_applies Complement w = record {
+      prefix_applies true Complement w = record {
+        plain = simp (d32, q32 source, wd, cut_plain w);
+        made = λ regs fits. cut_composed w _ ∙ simp (dd, d0, q0 source) (ap (cut_value w) (ones_changed (regs q) fits)
+            ∙ cut_whole w (2 ^ 32 - 1 - regs q) ∙ cut_complement w (regs q) fits);
+      }
+      prefix_applies false Complement w = record {
         plain = simp (d32, q32 source, wd, cut_plain w);
         made = λ regs fits. cut_composed w _ ∙ simp (dd, d0, q0 source) (ap (cut_value w) (one_less (regs q) fits)
             ∙ cut_whole w (2 ^ 32 - 1 - regs q) ∙ cut_complement w (regs q) fits);
       }
-      prefix_applies Negate w = record {
+      prefix_applies immediates Negate w = record {
         plain = simp (d32, q32 source, wd, cut_plain w);
         made = λ regs fits.
             let v = regs q in

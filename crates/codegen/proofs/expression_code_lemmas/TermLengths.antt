@@ -19,7 +19,7 @@ use Rattle.codegen.proofs.expression_code_lemmas.Below.{prefix_code, PrefixOpera
 use Rattle.codegen.proofs.expression_code_lemmas.Below.{right_row, rotate, rotate_code, row_of, scale_code, select}
 use Rattle.codegen.proofs.expression_code_lemmas.Below.{step_code, store_code, temporary, term_nodes, TermTree, Types}
 use Rattle.codegen.proofs.expression_code_lemmas.Below.{types_of, variable, variable_location, Width, WordType}
-use Rattle.codegen.proofs.expression_code_lemmas.Below.{working_register, sum_offset, is_sign}
+use Rattle.codegen.proofs.expression_code_lemmas.Below.{working_register, sum_offset, complement_code, is_sign}
 use Rattle.codegen.specs.expression_code.FrameBytes.{joined_word}
 use Rattle.codegen.specs.Below.{Boolean, LogicalAnd, LogicalOr, Multiply, W8}
 use Rattle.codegen.specs.declared.expression_code.numbers.Finish.TheVariants.{Narrowed}
@@ -126,9 +126,16 @@ pub number_length : (d r : ℕ) (w : Width) (row : NumberRow) → length (number
 number_length d r w row =
     simp length-append (omega (arith, number_step_length d r row.step, finish_length d w row.finish))
 
-pub prefix_length : (d r : ℕ) (o : PrefixOperator) (w : Width) → length (prefix_code d r o w) ≤ 4
-prefix_length d r prefixes.Not w = omega arith
-prefix_length d r operator w = omega (arith, narrow_length d d w)
+complement_length : (immediates : Bool) (d r : ℕ) → length (complement_code immediates d r) ≤ 2
+complement_length true d r = omega arith
+complement_length false d r = omega arith
+
+pub prefix_length : (immediates : Bool) (d r : ℕ) (o : PrefixOperator) (w : Width)
+    → length (prefix_code immediates d r o w) ≤ 4
+prefix_length immediates d r prefixes.Not w = omega arith
+prefix_length immediates d r prefixes.Complement w =
+    simp length-append (omega (arith, complement_length immediates d r, narrow_length d d w))
+prefix_length immediates d r prefixes.Negate w = omega (arith, narrow_length d d w)
 
 pub rotate_length : (d r : ℕ) (w : Width) (amount : ℕ) → length (rotate_code d r w amount) ≤ 7
 rotate_length d r w amount =

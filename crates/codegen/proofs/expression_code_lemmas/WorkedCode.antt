@@ -10,9 +10,10 @@ use Rattle.codegen.specs.Below.{Addi, Andi, array_as, BitAnd, BitOr, GreaterOrEq
 use Rattle.codegen.specs.Below.{LessOrEqual, Lui, Lw}
 use Rattle.codegen.specs.Below.{Mul, Multiply, number}
 use Rattle.codegen.specs.Below.{ShiftLeft, ShiftRight, Slli, Sltiu, Srai, Srli, Subtract, Uint32, Uint8, Unequal, W32}
+use Rattle.codegen.specs.Below.{W8, Xori}
 use Rattle.language.specs.declared.signature.Label.TheVariants.{Public}
 use Rattle.language.specs.declared.operators.BinaryOperator.TheVariants.{Add}
-use Rattle.language.specs.declared.operators.PrefixOperator.TheVariants.{Negate}
+use Rattle.language.specs.declared.operators.PrefixOperator.TheVariants.{Complement, Negate}
 use Rattle.codegen.specs.expression_code.Layout.{TermLayout}
 use Rattle.rv_code.specs.declared.instructions.Instr.TheVariants as instr
 use Rattle.rv_code.specs.declared.operations.RegisterOperation.TheVariants as register
@@ -171,6 +172,18 @@ module _ (place : Place) where
   sign_plain : code both_home (prefix Negate W32 (binary place ShiftRight W32 a b))
       ≡ instr.Register register.Srl 5 13 14 ∷ instr.Register register.Sub 5 0 5 ∷ []
   sign_plain = refl
+
+  -- a complement has all ones in its instruction, which plain code has not
+  changed : code with_numbers (prefix Complement W32 a) ≡ instr.Immediate Xori 5 13 4095 ∷ []
+  changed = refl
+
+  changed_narrow : code with_numbers (prefix Complement W8 a) ≡ instr.Immediate Xori 5 13 4095
+      ∷ instr.Immediate Andi 5 5 255 ∷ []
+  changed_narrow = refl
+
+  changed_plain : code both_home (prefix Complement W32 a) ≡ instr.Register register.Sub 5 0 13
+      ∷ instr.Immediate Addi 5 5 4095 ∷ []
+  changed_plain = refl
 
   -- 2048 is too large, but can be taken away
   too_large : code with_numbers (binary place Add W32 a (n 2048)) ≡ instr.Upper Lui 6 1

@@ -22,7 +22,7 @@ use Rattle.codegen.specs.expression_code.Registers.{second_spare, third_spare}
 use Rattle.codegen.specs.Below.{Add, Addi, And, Andi, binary, BinaryOperator, bits, Boolean, convert, Divu, element}
 use Rattle.codegen.specs.Below.{element_bytes, FlatVariable, Immediate, Instr, Kind, Lbu, Lhu, Load, LoadOperation, Lui}
 use Rattle.codegen.specs.Below.{Lw, Mul, Mulhu, number, opposite_of, Or, prefix, Register, Remu, rotate, select, Shift}
-use Rattle.codegen.specs.Below.{negated, Sll, Slli, Sltiu, Srai}
+use Rattle.codegen.specs.Below.{negated, Sll, Slli, Sltiu, Srai, Xori}
 use Rattle.codegen.specs.Below.{Sltu, Srl, Srli, Store, Sub, Sw, TermTree, truth, Uint16, Uint32, Uint8, Upper}
 use Rattle.codegen.specs.Below.{variable, W16, W32, W8, Width, width_of, Xor}
 use Rattle.rv_code.specs.declared.instructions.Instr.TheVariants.{Multiply, Divide}
@@ -223,11 +223,17 @@ number_step_code d r (KeepsLow others) = Shift Slli d r others ∷ Shift Srli d 
 abbrev pub number_code : ℕ → ℕ → Width → NumberRow → List Instr
 number_code d r w row = number_step_code d r row.step ++ finish_code d w row.finish
 
--- The complement is one less than the number's negative.
-abbrev pub prefix_code : ℕ → ℕ → PrefixOperator → Width → List Instr
-prefix_code d r prefixes.Not w = is_zero_code d r
-prefix_code d r prefixes.Complement w = negation_code d r ++ Immediate Addi d d 4095 ∷ cut_code d w
-prefix_code d r prefixes.Negate w = negation_code d r ++ cut_code d w
+-- each of its bits changed: by all ones in the instruction, where numbers go there, and else it is one less than the
+-- number's negative
+abbrev pub complement_code : Bool → ℕ → ℕ → List Instr
+complement_code true d r = Immediate Xori d r 4095 ∷ []
+complement_code false d r = negation_code d r ++ Immediate Addi d d 4095 ∷ []
+
+-- an operator before an operand, where numbers go into instructions or not
+abbrev pub prefix_code : Bool → ℕ → ℕ → PrefixOperator → Width → List Instr
+prefix_code immediates d r prefixes.Not w = is_zero_code d r
+prefix_code immediates d r prefixes.Complement w = complement_code immediates d r ++ cut_code d w
+prefix_code immediates d r prefixes.Negate w = negation_code d r ++ cut_code d w
 
 -- the top bit of a word in the place of each, which is 0 less that bit: what a shift that keeps the sign leaves
 abbrev pub sign_code : ℕ → ℕ → List Instr
@@ -419,7 +425,7 @@ module _ (layout : TermLayout) where
   abbrev pub before_code : ℕ → ℕ → PrefixOperator → Width → TermTree → List Instr → List Instr
   before_code d place operator width e into =
       placed_code place e into ++ fetch_operand place e first_spare
-      ++ prefix_code d (operand_register place e first_spare) operator width
+      ++ prefix_code layout.allocation.immediates d (operand_register place e first_spare) operator width
 
   -- the element at an index in its place, to which this code brings it, of an array at an offset
   abbrev pub indexed_code : ℕ → ℕ → ℕ → TermTree → List Instr → ℕ → List Instr

@@ -295,7 +295,7 @@ fn prefixed(
         }
     }
     let register = evaluated(layout, code, place, operand)?;
-    operators::prefix(code, target, register, operator, width)
+    operators::prefix(code, layout.immediates(), target, register, operator, width)
 }
 
 /// The element of an array at an index that is not near, into a register. Of a sum with a number that the access holds

@@ -6,7 +6,7 @@ ghost use Rattle.codegen.specs.expression_code.TermCode.{move_code, cut_code, na
 ghost use Rattle.codegen.specs.expression_code.TermCode.{is_zero_code, is_not_zero_code, negation_code, step_code};
 ghost use Rattle.codegen.specs.expression_code.TermCode.{finish_code, operator_code, number_step_code, number_code};
 ghost use Rattle.codegen.specs.expression_code.TermCode.{prefix_code, around_code, rotate_code, choice_code};
-ghost use Rattle.codegen.specs.expression_code.TermCode.{choice_or_zero_code, mask_code, sign_code};
+ghost use Rattle.codegen.specs.expression_code.TermCode.{choice_or_zero_code, complement_code, mask_code, sign_code};
 ghost use Rattle.codegen.specs.Below.{Addi, bits, Immediate, width_of};
 
 use crate::expression_code::emit::{MINUS_ONE, append};
@@ -269,21 +269,35 @@ pub fn operator(
     }
 }
 
-/// An operator before an operand, into a register.
+/// Each bit of a register changed, into another: by all ones in the instruction, where numbers go there, and else as
+/// one less than its negative.
+fn complement(code: &mut Vec<Instr>, immediates: bool, d: Reg, r: Reg) -> Result<(), AllocError>
+    ensures { OnOk result (code.new.items ≡ code.old.items ++ complement_code immediates d r) }
+{
+    if immediates {
+        let ones = Immediate12::from_bits(MINUS_ONE);
+        return append(code, Instr::Immediate(ImmediateOperation::Xori, d, r, ones));
+    }
+    negate(code, d, r)?;
+    append(code, less_one(d, d))
+}
+
+/// An operator before an operand, into a register, where numbers go into instructions or not.
 pub fn prefix(
     code: &mut Vec<Instr>,
+    immediates: bool,
     d: Reg,
     r: Reg,
     operator: PrefixOperator,
     width: Width,
 ) -> Result<(), AllocError>
-    ensures { OnOk result (code.new.items ≡ code.old.items ++ prefix_code d r operator width) }
+    ensures { OnOk result (code.new.items ≡ code.old.items ++ prefix_code immediates d r operator width) }
 {
     match operator {
         PrefixOperator::Not => is_zero(code, d, r),
         PrefixOperator::Complement => {
-            negate(code, d, r)?;
-            narrowed(code, d, width, less_one(d, d))
+            complement(code, immediates, d, r)?;
+            cut(code, d, width)
         }
         PrefixOperator::Negate => {
             negate(code, d, r)?;
