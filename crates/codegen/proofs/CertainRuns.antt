@@ -4,11 +4,12 @@
 use Rattle.std.proofs.Common.{◌≡◌, ℕ, suc, ◌+◌, ◌-◌, ◌*◌, ◌%◌, ◌^◌, ◌<◌, ◌≤◌, false, List, length, Some}
 use Rattle.std.proofs.Common.{slice_get, refl, ap, sym, subst, ap₂, ◌∙◌, arith}
 use Rattle.codegen.proofs.CountingRuns.{added, count_same, hidden_on, home_high, home_low, homes_compared, HoldsCount}
-use Rattle.codegen.proofs.CountingRuns.{HoldsNumber, iteration_is, number_there, numbered, one_sum}
+use Rattle.codegen.proofs.CounterStarts.{IsStart, Numbers}
+use Rattle.codegen.proofs.CountingRuns.{HoldsNumber, iteration_is, number_there, one_sum}
 use Rattle.codegen.proofs.Language.{word_as, iterations, path_of_iterations, counter_type, StraightBlock, StraightState}
 use Rattle.codegen.proofs.Language.{counted, after_all, path_along, Path}
 use Rattle.codegen.proofs.Logic.{nat_tests, Held, Setting, setting, Runs, quiet, quietly, weaken, gives, beside, Ready}
-use Rattle.codegen.proofs.Logic.{none, register-at}
+use Rattle.codegen.proofs.Logic.{Before, none, register-at}
 use Rattle.codegen.proofs.Machine.{home_of, mirror_code, Instr, sign_extended, sum_of}
 use Rattle.codegen.proofs.Slots.{StateShown, Hidden, hidden_then, hidden_by, ready_still, ready_with}
 use Rattle.codegen.specs.private.Jumps.{again_code}
@@ -44,6 +45,7 @@ module _ (z : Setting) (depth x h : ℕ) (known : slice_get z.declared x ≡ Som
     (body : StraightBlock) (unset : any_sets x body ≡ false)
     (inner : Runs z n (λ env. path_along env body) ys (Ready z)
     (StateShown z (depth + 1) (λ env. after_all env body)))
+    (Start : Before) (starts : IsStart z Start) (numbers : Numbers z depth x h known at Start)
     (near : 2 * length (iteration_code h (mirror_code z.allocation x) last ys) ≤ 2 ^ 11) where
   abbrev one_iteration : ℕ → StraightState → StraightState
   one_iteration i env = after_all (counted x i env) body
@@ -61,7 +63,7 @@ module _ (z : Setting) (depth x h : ℕ) (known : slice_get z.declared x ≡ Som
   -- the iteration of a number is next, and so many more: the home alone is not as it was, and has one less
   record Next (left i : ℕ) (env : StraightState) (s : machine.State) : Type 0 where
     before : machine.State
-    ready : Ready z env before
+    starting : Start env before
     less : HoldsNumber z h (one_less i) before s
     ends : i + left ≡ last
 
@@ -108,7 +110,7 @@ module _ (z : Setting) (depth x h : ℕ) (known : slice_get z.declared x ≡ Som
         };
         second = done.second;
       } in
-      numbered z depth x h known at (omega (arith, few)) env u t given.ready from_before
+      numbers (sum_of (s.regs h) 1) i (omega (arith, few)) env u t given.starting from_before
       (ap (λ a. sum_of a 1) less.there ∙ more_again i few)
 
   iteration_runs : (left i : ℕ) → Runs z (3 + (n + 1)) (iteration_path i) iteration (Next left i) (Iterated left i)
@@ -157,7 +159,7 @@ module _ (z : Setting) (depth x h : ℕ) (known : slice_get z.declared x ≡ Som
       (iteration_is z depth x h known at body unset i env) ready in (
         record {
           before = u;
-          ready = ready;
+          starting = starts.shown (one_iteration i env) u ready;
           less = record {
             held = ready.held;
             there = there ∙ omega (arith, done.ends, small);
@@ -176,7 +178,7 @@ module _ (z : Setting) (depth x h : ℕ) (known : slice_get z.declared x ≡ Som
 
   -- one iteration more than so many, the first at this number
   abbrev Starting : ℕ → ℕ → ℕ → StraightState → machine.State → Type 0
-  Starting first left i env s = Ready z env s × (first ≡ i) × (i + left ≡ last)
+  Starting first left i env s = Start env s × (first ≡ i) × (i + left ≡ last)
 
   pub counted_runs : (first : ℕ) → first < 2048 → (left i : ℕ)
       → Runs z (1 + (left + 1) * (3 + (n + 1) + 1))
@@ -191,13 +193,13 @@ module _ (z : Setting) (depth x h : ℕ) (known : slice_get z.declared x ≡ Som
         hidden_then z depth s m t (hidden_by z depth s m done.first.same) done.second.1,
       ))
       (quietly
-      (weaken {P' = Starting first left i} (λ env s fine given. given.0.held) (λ env s t fine given done. done)
+      (weaken {P' = Starting first left i} (λ env s fine given. starts.held env s given.0) (λ env s t fine given done. done)
       (begins first few))
       (all_iterations left i)
       (λ env s t given done. (
         record {
           before = s;
-          ready = given.0;
+          starting = given.0;
           less = subst (λ v. HoldsNumber z h (one_less v) s t) given.1 done;
           ends = given.2;
         },

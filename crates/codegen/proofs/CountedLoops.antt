@@ -5,6 +5,7 @@ use Rattle.std.proofs.Common.{◌∙◌, ap₂, subst, arith, ne_eqb, length-app
 use Rattle.std.proofs.lemmas.Bool.{ltb-true}
 use Rattle.std.proofs.lemmas.Nat.{mul-le}
 use Rattle.codegen.proofs.CertainRuns.{counted_runs}
+use Rattle.codegen.proofs.CounterStarts.{IsStart, Numbers, ready_numbers, ready_starts}
 use Rattle.codegen.proofs.CountingRuns.{Guarded, HoldsNumber, guarded_runs, home_high, home_low, homes_compared}
 use Rattle.codegen.proofs.CountingRuns.{one_computed}
 use Rattle.codegen.proofs.Language.{TermTree, word_as, value_in, path_in, iterations, path_of_iterations, Path, bounded}
@@ -16,7 +17,7 @@ use Rattle.codegen.proofs.Logic.{lt-ltb, nat_tests, none-some, same_Some, HeldAt
 use Rattle.codegen.proofs.Logic.{layout_of}
 use Rattle.codegen.proofs.Logic.{none, Runs, along, along_fit, seq, quietly, weaken, gives, cheaper, never}
 use Rattle.codegen.proofs.Logic.{Ready, HomesKept, homes_moved, number_or_zero, take, does, moves_run}
-use Rattle.codegen.proofs.Logic.{register-at}
+use Rattle.codegen.proofs.Logic.{Before, register-at}
 use Rattle.codegen.proofs.Logic.{load_length}
 use Rattle.codegen.proofs.Machine.{bounds_code, test_code, home_of, height_of, read_code, read_register, Instr}
 use Rattle.codegen.proofs.Machine.{slots_to, ByteMap, number_at, Sltu}
@@ -204,7 +205,8 @@ module _ (z : Setting) (depth x h : ℕ) (within : depth < z.depths)
 
     -- from a number below the bound on
 
-    module _ (value : ℕ) (is_below : IsBelow low bound value) where
+    module _ (Start : Before) (starts : IsStart z Start) (numbers : Numbers z depth x h known at Start) (value : ℕ)
+        (is_below : IsBelow low bound value) where
       abbrev last : ℕ
       last = bound - 1
 
@@ -216,7 +218,7 @@ module _ (z : Setting) (depth x h : ℕ) (within : depth < z.depths)
       certain_at : (b : ℕ × ℕ) → b.1 - b.0 ≤ most → (left : ℕ) → b.1 - b.0 ≡ left
           → Runs z (iterations_cost 1 + 1)
           (λ env. path_of_iterations left b.0 one_iteration (λ i e. path_along (counted x i e) body) env)
-          (counted_code h mirror value last ys) (With (Ready z) b)
+          (counted_code h mirror value last ys) (With Start b)
           (λ env s t. Done (iterations left b.0 one_iteration env) s t)
       certain_at b few zero is =
           never
@@ -234,12 +236,13 @@ module _ (z : Setting) (depth x h : ℕ) (within : depth < z.depths)
           let second = sym (is_short.value env.variables) ∙ ap (λ (c : ℕ × ℕ). c.1) known.is in
           (known.given, first, omega (arith, is, second)))
           (λ env s t fine known done. done)
-          (counted_runs z depth x h known at last (omega (arith, is_short.small)) n body unset inner last_near value
+          (counted_runs z depth x h known at last (omega (arith, is_short.small)) n body unset inner Start starts
+          numbers last_near value
           is_below.short.small left b.0))
 
       certain_runs : Runs z (iterations_cost 1 + 1)
           (λ env. path_in env.variables low ++ bounded x (bounds env).0 (bounds env).1 ∷ path_by env (bounds env))
-          (counted_code h mirror value last ys) (Ready z) Looped
+          (counted_code h mirror value last ys) Start Looped
       certain_runs =
           along
           (λ env. ap (λ (p : Path). p ++ bounded x (bounds env).0 (bounds env).1 ∷ path_by env (bounds env))
@@ -257,20 +260,34 @@ module _ (z : Setting) (depth x h : ℕ) (within : depth < z.depths)
         → ToNumber (to_number_code (layout_of z) h mirror low bound ys first_number)
     by_first None is = read_number_runs
     by_first (Some value) is =
-        cheaper (omega arith) (certain_runs value (below_is low bound value is_short.small is))
+        cheaper (omega arith)
+        (certain_runs (Ready z) (ready_starts z) (ready_numbers z depth x h known at) value
+        (below_is low bound value is_short.small is))
+
+    -- the bound puts nothing on the path
+    short_path : (env : StraightState) → path_at env (repeats x low high body)
+        ≡ path_in env.variables low ++ bounded x (bounds env).0 (bounds env).1 ∷ path_by env (bounds env)
+    short_path env =
+        let rest = bounded x (bounds env).0 (bounds env).1 ∷ path_by env (bounds env) in
+        ap (λ (front : Path). front ++ rest)
+        (ap (λ (p : Path). path_in env.variables low ++ p) (is_short.path env.variables)
+        ∙ append-nil (path_in env.variables low))
 
     pub to_number_runs : Runs z (16 * term_nodes low + (1 + (2 + (3 + (iterations_cost 1 + 3)) + 0)))
         (λ env. path_at env (repeats x low high body))
         (to_number_code (layout_of z) h mirror low bound ys (first_below bound low)) (Ready z)
         (StateShown z depth (λ env. after env (repeats x low high body)))
-    to_number_runs =
-        along
-        (λ env.
-        let rest = bounded x (bounds env).0 (bounds env).1 ∷ path_by env (bounds env) in
-        ap (λ (front : Path). front ++ rest)
-        (ap (λ (p : Path). path_in env.variables low ++ p) (is_short.path env.variables)
-        ∙ append-nil (path_in env.variables low)))
-        (by_first (first_below bound low) refl)
+    to_number_runs = along short_path (by_first (first_below bound low) refl)
+
+    -- also from a state in which the counter is not shown, where an iteration is certain
+    pub certain_number_runs : (Start : Before) → IsStart z Start → Numbers z depth x h known at Start → (value : ℕ)
+        → first_below bound low ≡ Some value
+        → Runs z (16 * term_nodes low + (1 + (2 + (3 + (iterations_cost 1 + 3)) + 0)))
+        (λ env. path_at env (repeats x low high body)) (counted_code h mirror value (bound - 1) ys) Start
+        (StateShown z depth (λ env. after env (repeats x low high body)))
+    certain_number_runs Start starts numbers value is =
+        along short_path
+        (cheaper (omega arith) (certain_runs Start starts numbers value (below_is low bound value is_short.small is)))
 
   -- Up to a bound in the frame.
 
@@ -316,7 +333,7 @@ module _ (z : Setting) (depth x h : ℕ) (within : depth < z.depths)
     word_test_length = omega (arith, length-append {A = Instr}, load_length 5 (words + 4))
 
     abbrev Beginning : StraightState → machine.State → Type 0
-    Beginning env s = AtLoop z words ((bounds env).1 - (bounds env).0) (bounds env).0 env s
+    Beginning env s = AtLoop z (Ready z) words ((bounds env).1 - (bounds env).0) (bounds env).0 env s
 
     abbrev word_code : List Instr
     word_code = test_code words ++ guarded_code 5 h mirror 6 (below_word_code h words) ys
@@ -335,9 +352,9 @@ module _ (z : Setting) (depth x h : ℕ) (within : depth < z.depths)
         (quietly
         (weaken {P' = With Beginning b}
         {R = λ env s t. Guarded z (InWord limit) 5 6 (b.1 - b.0) b.0 env t × (t.bytes ≡ s.bytes)}
-        (λ env s fine known. subst (λ (c : ℕ × ℕ). AtLoop z words (c.1 - c.0) c.0 env s) known.is known.given)
+        (λ env s fine known. subst (λ (c : ℕ × ℕ). AtLoop z (Ready z) words (c.1 - c.0) c.0 env s) known.is known.given)
         (λ env s t fine known tested.
-        let at' = subst (λ (c : ℕ × ℕ). AtLoop z words (c.1 - c.0) c.0 env s) known.is known.given in
+        let at' = subst (λ (c : ℕ × ℕ). AtLoop z (Ready z) words (c.1 - c.0) c.0 env s) known.is known.given in
         let counts = at'.counts in
         let small = counts.bound_small in (
           record {
@@ -353,7 +370,7 @@ module _ (z : Setting) (depth x h : ℕ) (within : depth < z.depths)
           },
           tested.same,
         ))
-        (test_runs z depth within (b.1 - b.0) b.0))
+        (test_runs z depth within (Ready z) (ready_starts z) (b.1 - b.0) b.0))
         (guarded_runs z depth x h known at 4 n limit (InWord limit) body (word_kept limit) (λ bytes there. there.1)
         (word_tests limit) unset inner (round_near _ word_test_length) 5 6 (omega arith) (omega arith) (omega arith)
         (omega arith) (b.1 - b.0) b.0 refl most few)

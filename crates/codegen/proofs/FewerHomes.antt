@@ -299,7 +299,7 @@ module _ (layout : Frame) (left_out : ℕ → Bool)
   register_same : (r : ℕ) (e : TermTree) → Spares (λ y. names_in y e) → read_register b r e ≡ read_register a r e
   register_same r e spares = rw (term_home_same e spares) refl
 
-  assign_same : (e : TermTree) (o : ℕ) → Spares (λ y. names_in y e)
+  pub assign_same : (e : TermTree) (o : ℕ) → Spares (λ y. names_in y e)
       → assign_code fewer e o ≡ assign_code layout e o
   assign_same e o spares = rw (read_same 5 0 e spares, register_same 5 e spares) refl
 

@@ -29,6 +29,7 @@ pub mod LoopRuns
 pub mod ComparedRuns
 pub mod BranchRuns
 pub mod CountingRuns
+pub mod CounterStarts
 pub mod CertainRuns
 pub mod CountedLoops
 pub mod RepeatRuns

@@ -4,7 +4,8 @@ use Rattle.std.proofs.Common.{length, Option, None, Some, slice_get, slice_index
 use Rattle.std.proofs.Common.{inl, inr}
 use Rattle.std.proofs.lemmas.Bool.Decides.{nat_tests}
 use Rattle.std.proofs.lemmas.Nat.{mul-le}
-use Rattle.codegen.proofs.CountingRuns.{count_same, home_low, moved_in, numbered}
+use Rattle.codegen.proofs.CounterStarts.{IsStart, Numbers, ready_numbers, ready_starts}
+use Rattle.codegen.proofs.CountingRuns.{count_same, home_low, moved_in}
 use Rattle.codegen.proofs.Language.{TermTree, word_as, value_in, path_in, iterations, path_of_iterations, Path, bounded}
 use Rattle.codegen.proofs.Language.{term_nodes, types_of, TermHasType, counter_type, StraightBlock, repeats}
 use Rattle.codegen.proofs.Language.{StraightState, counted, after, after_all, path_at, path_along, word_of}
@@ -36,8 +37,8 @@ pub record LoopCounts (z : Setting) (next left i : ℕ) (s : machine.State) : Ty
   pub bound_small : bound < 2 ^ 32
   pub bound_there : number_at s.bytes 4 (z.frame + (next + 4)) ≡ Some bound
 
-pub record AtLoop (z : Setting) (next left i : ℕ) (env : StraightState) (s : machine.State) : Type 0 where
-  pub ready : Ready z env s
+pub record AtLoop (z : Setting) (Start : Before) (next left i : ℕ) (env : StraightState) (s : machine.State) : Type 0 where
+  pub ready : Start env s
   pub counts : LoopCounts z next left i s
 
 -- whether an iteration is left is in the value's register, and the number in the left operand's
@@ -107,20 +108,22 @@ module _ (z : Setting) (depth : ℕ) (within : depth < z.depths) where
     bound_there = same (next + 4) (omega arith) (omega arith) ∙ counts.bound_there;
   }
 
-  at_same : (left i : ℕ) (env : StraightState) (s t : machine.State) → AtLoop z next left i env s → HeldAt z t
-      → t.bytes ≡ s.bytes → HomesKept z s t → AtLoop z next left i env t
-  at_same left i env s t at held same homes = record {
-    ready = ready_with z env s t at.ready held same homes;
+  at_same : (Start : Before) → IsStart z Start → (left i : ℕ) (env : StraightState) (s t : machine.State)
+      → AtLoop z Start next left i env s → HeldAt z t → t.bytes ≡ s.bytes → HomesKept z s t
+      → AtLoop z Start next left i env t
+  at_same Start starts left i env s t at held same homes = record {
+    ready = starts.moved env s t at.ready held same homes;
     counts = counts_kept left i s t (λ o low high. ap (λ (b : ByteMap). number_at b 4 (z.frame + o)) same) at.counts;
   }
 
   held_still : (s t : machine.State) → HeldAt z s → Still s t → HeldAt z t
   held_still s t held still = held_regs z s t (ap (λ (regs : ℕ → ℕ). regs 2) still.regs) still.bytes held
 
-  pub test_runs : (left i : ℕ) → Runs z 7 none (test_code next) (AtLoop z next left i) (TestedFor z left i)
-  test_runs left i =
+  pub test_runs : (Start : Before) → IsStart z Start → (left i : ℕ)
+      → Runs z 7 none (test_code next) (AtLoop z Start next left i) (TestedFor z left i)
+  test_runs Start starts left i =
       weaken
-      (λ env s fine at. at.ready.held)
+      (λ env s fine at. starts.held env s at.ready)
       (λ env s t fine at moved. record {
         held = moved.held;
         six = ap (λ (regs : ℕ → ℕ). regs 6) moved.regs ∙ ap number_or_zero at.counts.next_there;
@@ -138,31 +141,56 @@ module _ (z : Setting) (depth : ℕ) (within : depth < z.depths) where
 
   -- The counter.
 
-  abbrev Iterations : ℕ → ℕ → StraightState → machine.State → Type 0
-  Iterations left i env u = AtLoop z next (suc left) i env u × (u.regs 6 ≡ i)
+  abbrev pub Iterations : Before → ℕ → ℕ → StraightState → machine.State → Type 0
+  Iterations Start left i env u = AtLoop z Start next (suc left) i env u × (u.regs 6 ≡ i)
 
   abbrev Counted : ℕ → ℕ → ℕ → StraightState → machine.State → machine.State → Type 0
-  Counted x left i env u v = AtLoop z next left (i + 1) (counted x i env) v × Hidden z depth u v
+  Counted x left i env u v = AtLoop z (Ready z) next left (i + 1) (counted x i env) v × Hidden z depth u v
 
   -- the counter has the number, and nothing else that is shown has changed
-  record Taken (x i : ℕ) (env : StraightState) (s t : machine.State) : Type 0 where
+  pub record Taken (x i : ℕ) (env : StraightState) (s t : machine.State) : Type 0 where
     ready : Ready z (counted x i env) t
     six : t.regs 6 ≡ i
     hidden : Hidden z depth s t
     bound : number_at t.bytes 4 (z.frame + (next + 4)) ≡ number_at s.bytes 4 (z.frame + (next + 4))
 
   -- in its slot, or in its home
+  abbrev pub TakenFrom : Before → ℕ → ℕ → ℕ → Option ℕ → Type 0
+  TakenFrom Start x left i h = Runs z 5 none (put_word_code 6 (at_home h (InSlot (variable_offset z.laid x)))
+      ++ mirror_by h (mirror_of z.allocation x)) (Iterations Start left i) (Taken x i)
+
+  pub taken_home : (Start : Before) → IsStart z Start → (x left i home : ℕ)
+      (known : slice_get z.declared x ≡ Some (word_as counter_type false))
+      (at : home_of z.allocation.homes x ≡ Some home) → Numbers z depth x home known at Start
+      → TakenFrom Start x left i (Some home)
+  taken_home Start starts x left i home known at numbers =
+      let low = home_low z depth x home known at in
+      cheaper (omega arith)
+      (weaken {P' = Iterations Start left i}
+      (λ env s fine given.
+      let counts = given.0.counts in
+      (starts.held env s given.0.ready, omega (arith, given.1, counts.bound_small, counts.left_is)))
+      (λ env s t fine given done.
+      let counts = given.0.counts in
+      record {
+        ready = numbers (s.regs 6) i (omega (arith, counts.bound_small, counts.left_is)) env s t given.0.ready done given.1;
+        six = done.second.others 6 (λ e. omega (arith, e))
+            (λ mirror is e. omega (arith, z.allocated.some, (mirror_register z x mirror is).0, e))
+            ∙ (done.first.others 6 (λ e. omega (arith, low, e)) ∙ given.1);
+        hidden = hidden_by z depth s t (count_same z depth x home known at done);
+        bound = ap (λ (b : ByteMap). number_at b 4 (z.frame + (next + 4))) (count_same z depth x home known at done);
+      })
+      (as_code (ap (λ (h : Option ℕ). move_code home 6 ++ mirror_by h (mirror_of z.allocation x)) (sym at))
+      (moved_in z depth x home known at 6 (omega arith) (omega arith))))
+
   taken_by : (x left i : ℕ) → slice_get z.declared x ≡ Some (word_as counter_type false) → (h : Option ℕ)
-      → home_of z.allocation.homes x ≡ h
-      → Runs z 5 none (put_word_code 6 (at_home h (InSlot (variable_offset z.laid x)))
-      ++ mirror_by h (mirror_of z.allocation x)) (Iterations left i)
-      (Taken x i)
+      → home_of z.allocation.homes x ≡ h → TakenFrom (Ready z) x left i h
   taken_by x left i known None away =
       let o = variable_offset z.laid x in
       let before = word_before z x counter_type false known away in
       as_code (append-nil (put_word_code 6 (InSlot o)))
       (cheaper (omega arith)
-      (weaken {P' = Iterations left i}
+      (weaken {P' = Iterations (Ready z) left i}
       (λ env s fine given. given.0.ready.held)
       (λ env s t fine given moved.
       let counts = given.0.counts in
@@ -180,35 +208,16 @@ module _ (z : Setting) (depth : ℕ) (within : depth < z.depths) where
       })
       (move_runs z (put Sw 6 o) refl (omega arith, omega (arith, before, z.room)))))
   taken_by x left i known (Some home) at =
-      let low = home_low z depth x home known at in
-      cheaper (omega arith)
-      (weaken {P' = Iterations left i}
-      (λ env s fine given.
-      let counts = given.0.counts in
-      (given.0.ready.held, omega (arith, given.1, counts.bound_small, counts.left_is)))
-      (λ env s t fine given done.
-      let counts = given.0.counts in
-      record {
-        ready = numbered z depth x home known at (omega (arith, counts.bound_small, counts.left_is)) env s t
-            given.0.ready done given.1;
-        six = done.second.others 6 (λ e. omega (arith, e))
-            (λ mirror is e. omega (arith, z.allocated.some, (mirror_register z x mirror is).0, e))
-            ∙ (done.first.others 6 (λ e. omega (arith, low, e)) ∙ given.1);
-        hidden = hidden_by z depth s t (count_same z depth x home known at done);
-        bound = ap (λ (b : ByteMap). number_at b 4 (z.frame + (next + 4))) (count_same z depth x home known at done);
-      })
-      (as_code (ap (λ (h : Option ℕ). move_code home 6 ++ mirror_by h (mirror_of z.allocation x)) (sym at))
-      (moved_in z depth x home known at 6 (omega arith) (omega arith))))
+      taken_home (Ready z) (ready_starts z) x left i home known at (ready_numbers z depth x home known at)
 
   abbrev more_code : List Instr
   more_code = instr.Immediate Addi 6 6 1 ∷ []
 
   -- and then the next number is stored
-  count_runs : (x left i : ℕ) → slice_get z.declared x ≡ Some (word_as counter_type false)
+  count_runs : (Start : Before) (x left i : ℕ) → TakenFrom Start x left i (home_of z.allocation.homes x)
       → Runs z 9 none (count_code next (variable_location z.laid z.allocation x) (mirror_code z.allocation x))
-      (Iterations left i)
-      (Counted x left i)
-  count_runs x left i known =
+      (Iterations Start left i) (Counted x left i)
+  count_runs Start x left i taken_runs =
       gives
       (λ env s t fine given done.
       let counts = given.0.counts in
@@ -235,7 +244,7 @@ module _ (z : Setting) (depth : ℕ) (within : depth < z.depths) where
             (hidden_beyond z depth 4 next (i + 1) m t (omega arith) wrote),
       ))
       (stored z 6 next (λ env. i + 1) refl (omega arith) (omega (arith, next_inside))
-      (quiet (taken_by x left i known (home_of z.allocation.homes x) refl)
+      (quiet taken_runs
       (computing_within z is_scratch more_code refl scratch_low) (λ env s t given taken. taken.ready.held))
       (λ env s t given done.
       let counts = given.0.counts in (
@@ -274,7 +283,7 @@ module _ (z : Setting) (depth : ℕ) (within : depth < z.depths) where
       (assigned z o has room aligned inside)
 
   abbrev pub Begun : TermTree → TermTree → StraightState → machine.State → machine.State → Type 0
-  Begun low high env s t = AtLoop z next (value_in env.variables high - value_in env.variables low)
+  Begun low high env s t = AtLoop z (Ready z) next (value_in env.variables high - value_in env.variables low)
       (value_in env.variables low) env t × Hidden z depth s t
 
   pub bounds_runs : (low high : TermTree) → TermHasType (types_of z.code.profile z.declared) low counter_type
@@ -311,25 +320,23 @@ module _ (z : Setting) (depth : ℕ) (within : depth < z.depths) where
       (λ env s t ready done. ready_below z next (omega arith) env s t ready done.held done.kept done.homes))
 
   module _ (x : ℕ) (low high : TermTree) (body : StraightBlock) (n : ℕ) {ys : List Instr}
-      (known : slice_get z.declared x ≡ Some (word_as counter_type false))
-      (has_low : TermHasType (types_of z.code.profile z.declared) low counter_type)
-      (has_high : TermHasType (types_of z.code.profile z.declared) high counter_type)
-      (room_low : base_of z + 4 * slots_to z.allocation.count (height_of low) ≤ z.size)
-      (room_high : base_of z + 4 * slots_to z.allocation.count (height_of high) ≤ z.size)
       (near : 2 * (length (test_code next) + length (count_code next (variable_location z.laid z.allocation x)
       (mirror_code z.allocation x) ++ ys)) + 8 < 2 ^ 19)
       (inner : Runs z n (λ env. path_along env body) ys (Ready z)
-      (StateShown z (depth + 1) (λ env. after_all env body))) where
+      (StateShown z (depth + 1) (λ env. after_all env body)))
+      (Start : Before) (starts : IsStart z Start)
+      (taken_runs : (left i : ℕ) → TakenFrom Start x left i (home_of z.allocation.homes x)) where
     abbrev one_iteration : ℕ → StraightState → StraightState
     one_iteration i env = after_all (counted x i env) body
 
     abbrev Done : ℕ → ℕ → StraightState → machine.State → machine.State → Type 0
-    Done left i env u v = AtLoop z next left (i + 1) (one_iteration i env) v × Hidden z depth u v
+    Done left i env u v = AtLoop z (Ready z) next left (i + 1) (one_iteration i env) v × Hidden z depth u v
 
     -- an iteration
     body_runs : (left i : ℕ)
         → Runs z (9 + n) (λ env. path_along (counted x i env) body)
-        (count_code next (variable_location z.laid z.allocation x) (mirror_code z.allocation x) ++ ys) (Iterations left i) (Done left i)
+        (count_code next (variable_location z.laid z.allocation x) (mirror_code z.allocation x) ++ ys)
+        (Iterations Start left i) (Done left i)
     body_runs left i =
         gives
         (λ env u v fine given done.
@@ -345,11 +352,12 @@ module _ (z : Setting) (depth : ℕ) (within : depth < z.depths) where
           },
           hidden_then z depth u m v first.1 (hidden_less z depth (depth + 1) m v (omega arith) shown.hidden),
         ))
-        (quietly (count_runs x left i known) (beside (counted x i) inner)
+        (quietly (count_runs Start x left i (taken_runs left i)) (beside (counted x i) inner)
         (λ env s t given first. first.0.ready))
 
+    -- where no iteration is left, the counter is shown as well
     abbrev Inv : ℕ → ℕ → StraightState → machine.State → machine.State → Type 0
-    Inv left i env o s = AtLoop z next left i env s × Hidden z depth o s
+    Inv left i env o s = AtLoop z Start next left i env s × Hidden z depth o s × (left ≡ 0 → Ready z env s)
 
     abbrev Over : StraightState → machine.State → machine.State → Type 0
     Over env o u = Ready z env u × Hidden z depth o u
@@ -357,13 +365,15 @@ module _ (z : Setting) (depth : ℕ) (within : depth < z.depths) where
     iterated : (left i : ℕ) (env : StraightState) (o s t u v w : machine.State) → Inv (suc left) i env o s
         → TestedFor z (suc left) i env s t → Still t u → Done left i env u v → Still v w
         → Inv left (i + 1) (one_iteration i env) o w
-    iterated left i env o s t u v w inv tested still done back = (
-      at_same left (i + 1) (one_iteration i env) v w done.0 (held_still v w done.0.ready.held back) back.bytes
-          (homes_by z v w back.regs),
-      hidden_then z depth o s w inv.1
-          (hidden_then z depth s u w (hidden_by z depth s u (still.bytes ∙ tested.same))
-          (hidden_then z depth u v w done.1 (hidden_by z depth v w back.bytes))),
-    )
+    iterated left i env o s t u v w inv tested still done back =
+        let at' = at_same (Ready z) (ready_starts z) left (i + 1) (one_iteration i env) v w done.0
+        (held_still v w done.0.ready.held back) back.bytes (homes_by z v w back.regs) in (
+          record { ready = starts.shown (one_iteration i env) w at'.ready; counts = at'.counts },
+          hidden_then z depth o s w inv.1
+              (hidden_then z depth s u w (hidden_by z depth s u (still.bytes ∙ tested.same))
+              (hidden_then z depth u v w done.1 (hidden_by z depth v w back.bytes))),
+          λ none_left. at'.ready,
+        )
 
     abbrev bounds : StraightState → ℕ × ℕ
     bounds env = (value_in env.variables low, value_in env.variables high)
@@ -386,24 +396,24 @@ module _ (z : Setting) (depth : ℕ) (within : depth < z.depths) where
         (λ env s fine known. subst (λ (c : ℕ × ℕ). Inv (c.1 - c.0) c.0 env s s) known.is known.given)
         (λ env s t fine known over. subst (λ (c : ℕ × ℕ). Over (iterations (c.1 - c.0) c.0 one_iteration env) s t)
         (sym known.is) over)
-        (looping {z = setting z} 5 (omega arith) (λ e. omega arith) {A = λ left i. AtLoop z next left i} {B =
-        λ left i. TestedFor z left i} {C = Iterations} {D = Done}
+        (looping {z = setting z} 5 (omega arith) (λ e. omega arith) {A = λ left i. AtLoop z Start next left i}
+        {B = λ left i. TestedFor z left i} {C = Iterations Start} {D = Done}
         (λ i env. path_along (counted x i env) body) one_iteration Inv Over near
         (λ left i env o s inv. inv.0)
         (λ left i env o s t inv tested e. let f = tested.five ∙ some_left left in omega (arith, e, f))
         (λ i env o s t inv tested. tested.five)
         (λ left i env o s t u inv tested still. (
-          at_same (suc left) i env s u inv.0 (held_still t u tested.held still) (still.bytes
+          at_same Start starts (suc left) i env s u inv.0 (held_still t u tested.held still) (still.bytes
               ∙ tested.same) (homes_then z s t u tested.homes (homes_by z t u still.regs)),
           ap (λ (regs : ℕ → ℕ). regs 6) still.regs ∙ tested.six,
         ))
         iterated
         (λ i env o s t u inv tested still. (
-          ready_with z env s u inv.0.ready (held_still t u tested.held still) (still.bytes
+          ready_with z env s u (inv.2 refl) (held_still t u tested.held still) (still.bytes
               ∙ tested.same) (homes_then z s t u tested.homes (homes_by z t u still.regs)),
           hidden_then z depth o s u inv.1 (hidden_by z depth s u (still.bytes ∙ tested.same)),
         ))
-        test_runs body_runs (b.1 - b.0) b.0))
+        (test_runs Start starts) body_runs (b.1 - b.0) b.0))
 
     abbrev most : ℕ
     most = iterations_counted z.counts x low high
@@ -417,17 +427,44 @@ module _ (z : Setting) (depth : ℕ) (within : depth < z.depths) where
         (λ b few. cheaper (mul-le (b.1 - b.0 + 1) (7 + (9 + n) + 2) (most + 1) (7 + (9 + n) + 2)
         (omega (arith, few)) (omega arith)) (loop_at b))
 
+    -- the bounds are in the loop's words, and where no iteration is left, the counter is shown as well
+    abbrev pub Bounded : StraightState → machine.State → machine.State → Type 0
+    Bounded env s t = AtLoop z Start next ((bounds env).1 - (bounds env).0) (bounds env).0 env t × Hidden z depth s t
+        × ((bounds env).1 - (bounds env).0 ≡ 0 → Ready z env t)
+
     -- both bounds, and then the iterations
-    pub repeats_runs : Runs z (16 * term_nodes low + 3 + (16 * term_nodes high + 3)
-        + (most + 1) * (7 + (9 + n) + 2)) (λ env. path_at env (repeats x low high body))
+    pub repeats_from : (m : ℕ)
+        → Runs z m (λ env. path_in env.variables low ++ path_in env.variables high)
+        (bounds_code (layout_of z) next low high) Start Bounded
+        → Runs z (m + (most + 1) * (7 + (9 + n) + 2)) (λ env. path_at env (repeats x low high body))
         (bounds_code (layout_of z) next low high
         ++ loop_code (test_code next) (count_code next (variable_location z.laid z.allocation x) (mirror_code z.allocation x) ++ ys))
-        (Ready z) (StateShown z depth (λ env. after env (repeats x low high body)))
-    repeats_runs =
+        Start (StateShown z depth (λ env. after env (repeats x low high body)))
+    repeats_from m begins =
         gives
         (λ env s t fine ready done. record {
           ready = done.second.0;
           hidden = hidden_then z depth s done.middle t done.first.1 done.second.1;
         })
-        (seq (bounds_runs low high has_low has_high room_low room_high) loop_runs
-        (λ env s t ready begun. (begun.0, λ o from to. refl)))
+        (seq begins loop_runs (λ env s t ready begun. (begun.0, (λ o from to. refl), begun.2)))
+
+  pub repeats_runs : (x : ℕ) (low high : TermTree) (body : StraightBlock) (n : ℕ) {ys : List Instr}
+      → slice_get z.declared x ≡ Some (word_as counter_type false)
+      → TermHasType (types_of z.code.profile z.declared) low counter_type
+      → TermHasType (types_of z.code.profile z.declared) high counter_type
+      → base_of z + 4 * slots_to z.allocation.count (height_of low) ≤ z.size
+      → base_of z + 4 * slots_to z.allocation.count (height_of high) ≤ z.size
+      → 2 * (length (test_code next) + length (count_code next (variable_location z.laid z.allocation x)
+      (mirror_code z.allocation x) ++ ys)) + 8 < 2 ^ 19
+      → Runs z n (λ env. path_along env body) ys (Ready z) (StateShown z (depth + 1) (λ env. after_all env body))
+      → Runs z (16 * term_nodes low + 3 + (16 * term_nodes high + 3)
+      + (iterations_counted z.counts x low high + 1) * (7 + (9 + n) + 2)) (λ env. path_at env (repeats x low high body))
+      (bounds_code (layout_of z) next low high
+      ++ loop_code (test_code next) (count_code next (variable_location z.laid z.allocation x) (mirror_code z.allocation x) ++ ys))
+      (Ready z) (StateShown z depth (λ env. after env (repeats x low high body)))
+  repeats_runs x low high body n known has_low has_high room_low room_high near inner =
+      repeats_from x low high body n near inner (Ready z) (ready_starts z)
+      (λ left i. taken_by x left i known (home_of z.allocation.homes x) refl)
+      (16 * term_nodes low + 3 + (16 * term_nodes high + 3))
+      (gives (λ env s t fine ready begun. (begun.0, begun.1, λ none_left. begun.0.ready))
+      (bounds_runs low high has_low has_high room_low room_high))

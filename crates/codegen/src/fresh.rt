@@ -3,9 +3,10 @@
 ghost use Rattle.std.specs.Prelude.{◌≡◌, map};
 ghost use Rattle.codegen.specs.Below.{straight_block, straight_tree, term_tree};
 ghost use Rattle.codegen.specs.private.Fresh.{is_fresh, names_in, names_in_any, names_in_result, passes, sets_fresh};
-ghost use Rattle.codegen.specs.private.Fresh.{starts_fresh};
+ghost use Rattle.codegen.specs.private.Fresh.{is_certain, starts_fresh};
 ghost use Rattle.std.specs.Option.{option_map};
 
+use crate::expression_code::emit::NEAR;
 use branch_removal::{StraightCode, StraightStatement};
 use inline::Term;
 
@@ -41,13 +42,27 @@ fn names_in_any(terms: &[Term], variable: usize) -> bool
     false
 }
 
-/// Whether a statement sets a variable, and reads nowhere what it held before.
+/// Whether a loop is certain to make an iteration: it goes from a number up to a larger one that an instruction holds.
+fn is_certain(low: &Term, high: &Term) -> bool
+    ensures { result ≡ is_certain (term_tree low.now) (term_tree high.now) }
+{
+    match (low, high) {
+        (Term::Number(low, _), Term::Number(high, _)) => low < high && *high < NEAR,
+        _ => false,
+    }
+}
+
+/// Whether a statement sets a variable, and reads nowhere what it held before; a loop's counter is set where an
+/// iteration is certain.
 fn sets_fresh(statement: &StraightStatement, variable: usize) -> bool
     ensures { result ≡ sets_fresh variable (straight_tree statement.now) }
 {
     match statement {
         StraightStatement::Set(within, set, value) => within.is_none()
             && (*set as usize == variable && !names_in(value, variable)),
+        StraightStatement::Repeat(counter, low, high, _) => {
+            *counter as usize == variable && is_certain(low, high)
+        }
         _ => false,
     }
 }

@@ -5,6 +5,7 @@ use Rattle.std.specs.Prelude.{Option, None, Some, is_none, if◌then◌else◌}
 use Rattle.codegen.specs.Below.{array, binary, branch, convert, element, first, nothing, number, prefix, put, repeats}
 use Rattle.codegen.specs.Below.{rotate, select, set, StraightBlock, StraightProgram, StraightTree, take, TermTree}
 use Rattle.codegen.specs.Below.{truth, variable}
+use Rattle.codegen.specs.expression_code.NearElements.{is_near}
 
 -- whether an expression names a variable
 abbrev pub names_in : ℕ → TermTree → Bool
@@ -29,9 +30,16 @@ abbrev pub names_in_result : ℕ → Option TermTree → Bool
 names_in_result y None = false
 names_in_result y (Some value) = names_in y value
 
--- whether a statement sets a variable and reads what it held before nowhere
+-- whether a loop is certain to make an iteration: it goes from a number up to a larger one that an instruction holds
+abbrev pub is_certain : TermTree → TermTree → Bool
+is_certain (number low kind) (number high other) = nat_lt low high && is_near high
+is_certain low high = false
+
+-- whether a statement sets a variable and reads what it held before nowhere; a loop's counter is set where an iteration
+-- is certain
 abbrev pub sets_fresh : ℕ → StraightTree → Bool
 sets_fresh y (set within x value) = is_none within && ((x == y) && not (names_in y value))
+sets_fresh y (repeats x low high body) = (x == y) && is_certain low high
 sets_fresh y statement = false
 
 abbrev mutual
