@@ -23,6 +23,7 @@ from rattle_sources import calls_one, closing, functions, owners_for
 # Loops that count, in which memory grows: file, function, and what bounds it.
 LOOPS = [
     ("codegen/src/homes.rt", "all_weights", "the variables of a program, which have weights"),
+    ("codegen/src/statements.rt", "statements", "the statements that it is given: each iteration takes one of them or four"),
     ("commands/src/step_counts.rt", "run_counting", "nothing is kept from step to step"),
     ("elf/src/reading.rt", "segments_of", "the program headers, all of which lie in the file, as is checked before"),
     ("elf_runs/src/calls.rt", "calls_behind_entries", "64 calls at most, which have room from the beginning"),

@@ -1,5 +1,5 @@
 -- How long the code of statements is. And well-typed statements that the frame has room for have their places.
-use Rattle.std.proofs.Common.{ℕ, ◌+◌, ◌*◌, ◌≤◌, nat_lt, List, [], ◌∷◌, ◌++◌, length, Option, None, Some, arith}
+use Rattle.std.proofs.Common.{ℕ, zero, suc, ◌+◌, ◌*◌, ◌≤◌, nat_lt, List, [], ◌∷◌, ◌++◌, length, Option, None, Some, arith}
 use Rattle.std.proofs.Common.{is_some, length-append, ◌≡◌, ◌<◌, ◌==◌, Bool, true, false, slice_get, subst, sym}
 use Rattle.codegen.proofs.Language.{statement_nodes, block_nodes, StraightTree, set, array, put, take, branch, repeats}
 use Rattle.codegen.proofs.Language.{FlatVariable, StraightBlock, nothing, first, TermTree, array_as, term_nodes}
@@ -14,14 +14,14 @@ use Rattle.codegen.specs.private.Loops.{any_sets}
 use Rattle.codegen.specs.private.Emitted.{gives_zero, read_code, read_register, stored_register, stored_value, set_code}
 use Rattle.codegen.specs.private.Emitted.{set_under_code, taken_code, kept_code, join_code, element_store_code}
 use Rattle.codegen.specs.private.Emitted.{clear_code, array_code, fill_code, into_near_code, statement_code}
-use Rattle.codegen.specs.private.Emitted.{block_code, index_code, put_code, put_element_code, put_under_code}
-use Rattle.codegen.specs.private.Emitted.{put_under_near_code}
+use Rattle.codegen.specs.private.Emitted.{block_code, code_behind, index_code, put_code, put_element_code, put_under_code}
+use Rattle.codegen.specs.private.Emitted.{put_under_near_code, word_code, word_put}
 use Rattle.codegen.specs.private.Erased.{erase_under_code}
 use Rattle.codegen.specs.Below.{depth_in, depth_in_all, height_in, height_in_all, height_of_all}
 use Rattle.codegen.proofs.Machine.{ArePlacedTerms, control_location, HasPlace, HavePlaces, register_of, variable_offset}
 use Rattle.codegen.proofs.Machine.{access_offset, Allocation, computed_index, Frame, IsAmong}
 use Rattle.codegen.specs.expression_code.TermCode.{sum_offset}
-use Rattle.codegen.specs.Below.{binary}
+use Rattle.codegen.specs.Below.{binary, variable}
 use Rattle.codegen.proofs.Slotted.{first_words}
 use Rattle.codegen.proofs.Machine.{home_of, mirror_of, temporaries_offset, kind_at, near_place, height_of, Instr, slots_to}
 use Rattle.codegen.proofs.Mirroring.{mirror_length}
@@ -148,6 +148,15 @@ array_length layout x size [] =
 array_length layout x size (e ∷ es) =
     omega (arith, fill_length layout (kind_at layout.declared x) (variable_offset layout.declared x) (e ∷ es))
 
+-- a statement is a node
+some_nodes : (s : StraightTree) → 0 < statement_nodes s
+some_nodes (set within x value) = omega arith
+some_nodes (array x size values) = omega arith
+some_nodes (put within place x size index value) = omega arith
+some_nodes (take control within condition) = omega arith
+some_nodes (branch condition accepted otherwise) = omega arith
+some_nodes (repeats x low high body) = omega arith
+
 -- Statements: at most 32 instructions a node.
 module _ (layout : Frame) where
   mutual
@@ -166,20 +175,33 @@ module _ (layout : Frame) where
     statement_length depth (take control within condition) =
         omega (arith, length-append {A = Instr}, read_length, taken_length, kept_length)
     statement_length depth (branch condition accepted otherwise) =
-        let xs = block_code layout depth accepted in
-        let ys = block_code layout depth otherwise in
+        let xs = code_behind layout depth 0 accepted in
+        let ys = code_behind layout depth 0 otherwise in
         let spans = branching_spans layout condition xs ys in
-        omega (arith, spans.1, block_length depth accepted, block_length depth otherwise)
+        omega (arith, spans.1, behind_length depth 0 accepted, behind_length depth 0 otherwise)
     statement_length depth (repeats x low high body) =
-        let ys = block_code layout (depth + 1) body in
+        let ys = code_behind layout (depth + 1) 0 body in
         let spans = repeat_spans layout depth x ys low high (any_sets x body) in
-        omega (arith, spans.1, block_length (depth + 1) body)
+        omega (arith, spans.1, behind_length (depth + 1) 0 body)
 
-    pub block_length : (depth : ℕ) (b : StraightBlock)
-        → length (block_code layout depth b) ≤ 32 * block_nodes b
-    block_length depth nothing = omega arith
-    block_length depth (first s rest) =
-        omega (arith, length-append {A = Instr}, statement_length depth s, block_length depth rest)
+    behind_length : (depth passed : ℕ) (b : StraightBlock)
+        → length (code_behind layout depth passed b) ≤ 32 * block_nodes b
+    behind_length depth passed nothing = omega arith
+    behind_length depth (suc passed) (first s rest) = omega (arith, behind_length depth passed rest)
+    behind_length depth zero (first s rest) =
+        code_length (word_put layout.declared layout.allocation (first s rest))
+        (λ word. word_code layout word ++ code_behind layout depth 3 rest) _ (32 * (statement_nodes s + block_nodes rest))
+        (λ word. omega (
+          arith,
+          length-append {A = Instr},
+          assign_length layout (variable word.variable) word.offset,
+          some_nodes s,
+          behind_length depth 3 rest,
+        ))
+        (omega (arith, length-append {A = Instr}, statement_length depth s, behind_length depth 0 rest))
+
+  pub block_length : (depth : ℕ) (b : StraightBlock) → length (block_code layout depth b) ≤ 32 * block_nodes b
+  block_length depth b = behind_length depth 0 b
 
 -- Places.
 

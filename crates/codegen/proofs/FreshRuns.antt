@@ -1,14 +1,16 @@
 -- The code of statements before which some variables are not at home: what reads one comes behind a statement that sets
 -- it.
-use Rattle.std.proofs.Common.{◌≡◌, ℕ, ◌+◌, ◌-◌, ◌*◌, ◌<◌, ◌≤◌, ◌==◌, ◌&&◌, ◌||◌, not, Bool, true, false, List, ◌++◌}
+use Rattle.std.proofs.Common.{◌≡◌, ℕ, zero, suc, ◌+◌, ◌-◌, ◌*◌, ◌<◌, ◌≤◌, ◌==◌, ◌&&◌, ◌||◌, not, Bool, true, false, List, ◌++◌}
 use Rattle.std.proofs.Common.{length, length-append, Option, None, Some, slice_get, refl}
 use Rattle.std.proofs.Common.{sym, ap, ◌∙◌, subst, arith, ne_eqb, eq-eqb}
 use Rattle.std.proofs.lemmas.Bool.{and_left, and_parts, cases_Bool, not-true, or_from, true≢false}
+use Rattle.codegen.proofs.BlockParts.{after_parts, behind, front, front_typed, path_parts, work_parts}
 use Rattle.codegen.proofs.BranchLengths.{branching_spans}
 use Rattle.codegen.proofs.BranchRuns.{branching_runs}
 use Rattle.codegen.proofs.Choices.{of_choice}
 use Rattle.codegen.proofs.FewerHomes.{branching_same, but, home_but, home_kept, into_same, IsSimple, neither_of_three}
 use Rattle.codegen.proofs.FewerHomes.{assign_same, repeat_same, statement_same}
+use Rattle.codegen.proofs.FewerWords.{front_run}
 use Rattle.codegen.proofs.LoopLengths.{repeat_spans}
 use Rattle.codegen.proofs.Machine.{AreNear, mirror_by, mirror_of, sum_of}
 use Rattle.codegen.proofs.Mirroring.{mirror_runs}
@@ -25,11 +27,12 @@ use Rattle.codegen.proofs.Language.{nothing, Path, path_along, path_at, put, rep
 use Rattle.codegen.proofs.Language.{StraightBlock, StraightState, StraightTree, TermTree}
 use Rattle.codegen.proofs.Language.{counter_type, FlatVariable, iterations_counted, path_in, term_nodes, TermHasType}
 use Rattle.codegen.proofs.Language.{types_of, value_in, word_as}
-use Rattle.codegen.proofs.Logic.{as_code, base_of, beside, cheaper, eqb-false, eqb-true, gives, home_beside}
+use Rattle.codegen.proofs.Logic.{as_code, base_of, beside, cheaper, eqb-false, eqb-true, gives, home_beside, along}
 use Rattle.codegen.proofs.Logic.{kept_less, layout_of, Ready, Runs, seq, Setting, weaken}
-use Rattle.codegen.proofs.Machine.{Allocation, AllReadKept, at_home, block_code, depth_in, depth_in_all}
+use Rattle.codegen.proofs.Machine.{Allocation, AllReadKept, at_home, code_behind, code_by, depth_in, depth_in_all}
 use Rattle.codegen.proofs.Machine.{far, height_in, height_in_all, height_of, home_of, InSlot, Instr, ReadsKept}
 use Rattle.codegen.proofs.Machine.{bounds_code, next_offset, set_code, slots_to, statement_code, variable_offset}
+use Rattle.codegen.proofs.Machine.{word_code, word_put}
 use Rattle.codegen.proofs.SettingBut.{AreBare, as_before, fewer, in_all, in_fewer, laid_but, ready_alike, ready_left}
 use Rattle.codegen.proofs.SettingBut.{typed_as, typed_away, typed_before, typed_same, without}
 use Rattle.codegen.proofs.Slots.{Hidden, hidden_kept, hidden_then, homed_runs, StateShown}
@@ -38,6 +41,7 @@ use Rattle.codegen.proofs.StatementRuns.{statement_runs}
 use Rattle.codegen.specs.private.Fresh.{is_certain, is_fresh, names_in, passes, sets_fresh}
 use Rattle.codegen.specs.Below.{number}
 use Rattle.codegen.specs.private.Loops.{any_sets, repeat_code}
+use Rattle.codegen.specs.declared.word_puts.WordPut.{WordPut}
 use Rattle.codegen.proofs.HomeWords.{ready_at_home}
 use Rattle.codegen.proofs.TypedBut.{known_typed, own_typed, statement_typed, value_typed}
 use Rattle.rv_machine.specs.Machine as machine
@@ -340,8 +344,14 @@ module _ (z : Setting) where
       pub fresh : (y : ℕ) → left y ≡ true → is_fresh y rest value ≡ true
       pub runs : Steps_on depth out left s
 
-    abbrev block_of : ℕ → StraightBlock → List Instr
-    block_of depth b = block_code (layout_of z) depth b
+    abbrev code_after : ℕ → ℕ → StraightBlock → List Instr
+    code_after depth passed b = code_behind (layout_of z) depth passed b
+
+    -- what statements behind so many make of a state in which these are not at home yet
+    abbrev Blocks_on : ℕ → (ℕ → Bool) → ℕ → StraightBlock → Type 0
+    Blocks_on depth out passed b = Runs z (32 * block_work z.counts (behind passed b))
+        (λ env. path_along env (behind passed b)) (code_after depth passed b) (Ready (fewer z out))
+        (Made depth out (λ env. after_all env (behind passed b)))
 
     -- a statement that they pass leaves them all
     leaves : (depth : ℕ) (out : ℕ → Bool) (s : StraightTree) (rest : StraightBlock) (value : Option TermTree)
@@ -367,6 +377,56 @@ module _ (z : Setting) where
     shown_in depth out made one =
         in_fewer z out
         (gives (λ env s t fine ready done. record { ready = done.0; hidden = done.1 }) one)
+
+    -- the first statement is run, or the word is stored that the first four put
+    module _ (depth : ℕ) (within : depth ≤ z.depths) (out : ℕ → Bool) (some : AreSome out) (s : StraightTree)
+        (rest : StraightBlock) (fresh : (y : ℕ) → out y ≡ true → is_fresh y (first s rest) None ≡ true)
+        (typed : AreTyped z.code.profile z.declared z.controls (first s rest))
+        (one : length (code_of depth s) < far → StatementRun depth out s rest None)
+        (next : (left : ℕ → Bool) → AreSome left → (passed : ℕ)
+        → ((y : ℕ) → left y ≡ true → is_fresh y (behind passed rest) None ≡ true)
+        → length (code_after depth passed rest) < far → Blocks_on depth left passed rest) where
+      abbrev all : StraightBlock
+      all = first s rest
+
+      abbrev coded : Option WordPut → List Instr
+      coded o = code_by o (λ word. word_code (layout_of z) word ++ code_after depth 3 rest)
+          (code_of depth s ++ code_after depth 0 rest)
+
+      by_word : (o : Option WordPut) → word_put z.laid a all ≡ o → length (coded o) < far
+          → Runs z (32 * block_work z.counts all) (λ env. path_along env all) (coded o) (Ready (fewer z out))
+          (Made depth out (λ env. after_all env all))
+      by_word None is few =
+          let step = one (omega (arith, length-append {A = Instr}, few)) in
+          let fewer_some : AreSome step.left = λ y on. some y (step.fewer_left y on) in
+          cheaper (omega arith)
+          (gives
+          (λ env s' t fine ready done. (
+            ready_left z step.left out step.fewer_left (λ y on. variables y (some y on))
+                (λ y home d on at known. bare y home d (some y on) at known) (after_all (after env s) rest) t done.second.0,
+            hidden_then z depth s' done.middle t done.first.1 done.second.1,
+          ))
+          (seq step.runs
+          (beside (λ env. after env s)
+          (next step.left fewer_some 0 step.fresh (omega (arith, length-append {A = Instr}, few))))
+          (λ env s' t ready done. done.0)))
+      by_word (Some word) is few =
+          let run = front_run z depth within out (λ y on. variables y (some y on)) all None word is fresh
+          (front_typed z.code.profile z.declared z.controls 4 all typed) in
+          cheaper (omega (arith, work_parts z.counts 4 all))
+          (along (λ env. path_parts 4 all env)
+          (gives
+          (λ env s' t fine ready done. (
+            subst (λ (e : StraightState). Ready (fewer z out) e t) (sym (after_parts 4 all env)) done.second.0,
+            hidden_then z depth s' done.middle t done.first.1 done.second.1,
+          ))
+          (seq run.runs
+          (beside (λ env. after_all env (front 4 all))
+          (next out some 3 run.fresh (omega (arith, length-append {A = Instr}, few))))
+          (λ env s' t ready done. done.0))))
+
+      chosen : length (code_after depth 0 all) < far → Blocks_on depth out 0 all
+      chosen few = by_word (word_put z.laid a all) refl few
 
     mutual
       pub stepped : (depth : ℕ) (out : ℕ → Bool) → AreSome out → (s : StraightTree) (rest : StraightBlock)
@@ -418,8 +478,8 @@ module _ (z : Setting) where
           let arms = λ (y : ℕ) (on : out y ≡ true). and_parts _ _ (inside y on).1 in
           let unnamed = λ (y : ℕ) (on : out y ≡ true). not-true (names_in y condition) (inside y on).0 in
           let below = λ (y : ℕ) (on : out y ≡ true). variables y (some y on) in
-          let xs = block_of depth accepted in
-          let ys = block_of depth otherwise in
+          let xs = code_after depth 0 accepted in
+          let ys = code_after depth 0 otherwise in
           let spans = branching_spans (layout_of z) condition xs ys in
           let near : AreNear (length xs) (length ys) = omega (arith, spans.0, few) in
           as_code (sym (branching_same (layout_of z) out below condition xs ys unnamed))
@@ -431,10 +491,10 @@ module _ (z : Setting) where
           (own_typed out z.code.profile z.declared (typed_as z out) (typed_same z out) typed.0 unnamed)
           (omega (arith, room)) (omega (arith, within)) near
           (shown_in depth out (λ env. after_all env accepted)
-          (blocks depth out some accepted (λ y on. (arms y on).0) typed.1 read.0 (omega (arith, room))
+          (blocks depth out some 0 accepted (λ y on. (arms y on).0) typed.1 read.0 (omega (arith, room))
           (omega (arith, within)) (omega (arith, near))))
           (shown_in depth out (λ env. after_all env otherwise)
-          (blocks depth out some otherwise (λ y on. (arms y on).1) typed.2 read.1 (omega (arith, room))
+          (blocks depth out some 0 otherwise (λ y on. (arms y on).1) typed.2 read.1 (omega (arith, room))
           (omega (arith, within)) (omega (arith, near)))))))))
       stepped depth out some (repeats x low high body) rest value fresh typed read room within few =
           elim (cases_Bool (out x)) [
@@ -448,7 +508,7 @@ module _ (z : Setting) where
                 let certain = counter_fresh (x == x) (is_certain low high) (names_in x low || names_in x high)
                 (is_fresh x body None) (is_fresh x rest value) (eq-eqb x x refl) (fresh x chosen) in
                 let fewer_some : AreSome left = λ y on. some y (apart y on).1 in
-                let ys = block_of (depth + 1) body in
+                let ys = code_after (depth + 1) 0 body in
                 let spans = repeat_spans (layout_of z) depth x ys low high (any_sets x body) in
                 record {
                   left = left;
@@ -459,7 +519,7 @@ module _ (z : Setting) where
                       (λ y home d on at known. bare y home d (some y on) at known) x low high body certain typed
                       (omega (arith, room)) (omega (arith, room)) (omega (arith, within)) (32 * block_work z.counts body)
                       (shown_in (depth + 1) left (λ env. after_all env body)
-                      (blocks (depth + 1) left fewer_some body (λ y on. (and_parts _ _ (ways y on).0).1) typed.3 read
+                      (blocks (depth + 1) left fewer_some 0 body (λ y on. (and_parts _ _ (ways y on).0).1) typed.3 read
                       (omega (arith, room)) (omega (arith, within)) (omega (arith, spans.0, few))))
                       few (home_of a.homes x) refl);
                 }
@@ -475,7 +535,7 @@ module _ (z : Setting) where
                 let first_bound = λ (y : ℕ) (on : out y ≡ true). (parts y on).1 in
                 let last_bound = λ (y : ℕ) (on : out y ≡ true). (parts y on).2 in
                 let below = λ (y : ℕ) (on : out y ≡ true). variables y (some y on) in
-                let ys = block_of (depth + 1) body in
+                let ys = code_after (depth + 1) 0 body in
                 let spans = repeat_spans (layout_of z) depth x ys low high (any_sets x body) in
                 let same = repeat_same (layout_of z) out below depth x low high (any_sets x body) ys counter first_bound
                 last_bound in
@@ -489,34 +549,27 @@ module _ (z : Setting) where
                 (own_typed out z.code.profile z.declared (typed_as z out) (typed_same z out) typed.1 last_bound)
                 (omega (arith, room)) (omega (arith, room))
                 (shown_in (depth + 1) out (λ env. after_all env body)
-                (blocks (depth + 1) out some body (λ y on. (inside y on).1) typed.3 read (omega (arith, room))
+                (blocks (depth + 1) out some 0 body (λ y on. (inside y on).1) typed.3 read (omega (arith, room))
                 (omega (arith, within)) (omega (arith, spans.0, few))))
                 (subst (λ (is : List Instr). length is < far) (sym same) few))))))
           ]
 
-      -- statements, one after the other: those that came home are left out again behind them
-      pub blocks : (depth : ℕ) (out : ℕ → Bool) → AreSome out → (b : StraightBlock)
-          → ((y : ℕ) → out y ≡ true → is_fresh y b None ≡ true)
+      -- statements behind so many, one after the other: those that came home are left out again behind them
+      pub blocks : (depth : ℕ) (out : ℕ → Bool) → AreSome out → (passed : ℕ) (b : StraightBlock)
+          → ((y : ℕ) → out y ≡ true → is_fresh y (behind passed b) None ≡ true)
           → AreTyped z.code.profile z.declared z.controls b → AllReadKept a.unread b
           → base + 4 * slots_to a.count (height_in_all b) ≤ z.size → depth + depth_in_all b ≤ z.depths
-          → length (block_of depth b) < far
-          → Runs z (32 * block_work z.counts b) (λ env. path_along env b) (block_of depth b) (Ready (fewer z out))
-          (Made depth out (λ env. after_all env b))
-      blocks depth out some nothing fresh typed read room within few =
+          → length (code_after depth passed b) < far → Blocks_on depth out passed b
+      blocks depth out some zero nothing fresh typed read room within few =
           idle (λ env s ready. (ready, λ o low high. refl))
-      blocks depth out some (first s rest) fresh typed read room within few =
-          let step = stepped depth out some s rest None fresh typed.0 read.0 (omega (arith, room)) (omega (arith, within))
-          (omega (arith, length-append {A = Instr}, few)) in
-          let fewer_some : AreSome step.left = λ y on. some y (step.fewer_left y on) in
-          cheaper (omega arith)
-          (gives
-          (λ env s' t fine ready done. (
-            ready_left z step.left out step.fewer_left (λ y on. variables y (some y on))
-                (λ y home d on at known. bare y home d (some y on) at known) (after_all (after env s) rest) t done.second.0,
-            hidden_then z depth s' done.middle t done.first.1 done.second.1,
-          ))
-          (seq step.runs
-          (beside (λ env. after env s)
-          (blocks depth step.left fewer_some rest step.fresh typed.1 read.1 (omega (arith, room))
-          (omega (arith, within)) (omega (arith, length-append {A = Instr}, few))))
-          (λ env s' t ready done. done.0)))
+      blocks depth out some (suc passed) nothing fresh typed read room within few =
+          idle (λ env s ready. (ready, λ o low high. refl))
+      blocks depth out some (suc passed) (first s rest) fresh typed read room within few =
+          blocks depth out some passed rest fresh typed.1 read.1 (omega (arith, room)) (omega (arith, within)) few
+      blocks depth out some zero (first s rest) fresh typed read room within few =
+          chosen depth (omega (arith, within)) out some s rest fresh typed
+          (λ small. stepped depth out some s rest None fresh typed.0 read.0 (omega (arith, room)) (omega (arith, within))
+          small)
+          (λ left less passed new small. blocks depth left less passed rest new typed.1 read.1 (omega (arith, room))
+          (omega (arith, within)) small)
+          few

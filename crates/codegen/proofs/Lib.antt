@@ -17,6 +17,9 @@ pub mod PairRuns
 pub mod Elements
 pub mod ElementRuns
 pub mod ElementUnderRuns
+pub mod BlockParts
+pub mod WordPuts
+pub mod WordPlaces
 pub mod Arguments
 pub mod Choices
 pub mod ClearRuns
@@ -43,6 +46,7 @@ pub mod HomesBut
 pub mod FewerHomes
 pub mod TypedBut
 pub mod SettingBut
+pub mod FewerWords
 pub mod FreshRuns
 pub mod ProgramRuns
 pub mod BodyRuns

@@ -12,7 +12,7 @@ pub use Rattle.codegen.specs.private.Emitted.{join_code, kept_code, masks_code, 
 pub use Rattle.codegen.specs.private.Emitted.{read_code, read_register, set_code, set_under_code, statement_code}
 pub use Rattle.codegen.specs.private.Emitted.{store_by, test_code, taken_code, unless_home, unless_unread}
 pub use Rattle.codegen.specs.private.Emitted.{put_element_code, put_under_near_code, stored_code}
-pub use Rattle.codegen.specs.private.Emitted.{stored_register, gives_zero}
+pub use Rattle.codegen.specs.private.Emitted.{code_behind, stored_register, gives_zero, word_code, word_put}
 pub use Rattle.branch_removal.specs.Heights.{depth_in_all, height_of_all, height_of_put, depth_in, height_in}
 pub use Rattle.branch_removal.specs.Heights.{height_in_all, program_height, result_height, height_of}
 pub use Rattle.codegen.specs.private.Generated.{body_of, entry_code, first_code, frame_of, home_count, image_of}

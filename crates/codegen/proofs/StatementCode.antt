@@ -1,8 +1,7 @@
 -- The code of a statement that holds others, by that of its arms or its body.
-use Rattle.std.proofs.Common.{◌≡◌, ℕ, zero, suc, ◌+◌, ◌≤◌, ◌++◌, List, [], ◌∷◌, length, drop, length-append, Result}
+use Rattle.std.proofs.Common.{◌≡◌, ℕ, ◌+◌, ◌≤◌, ◌++◌, List, [], length, Result}
 use Rattle.std.proofs.Common.{Ok, Err, IsErrAnd, IfErr, Bool, refl, sym, ap, ◌∙◌, arith}
-use Rattle.codegen.proofs.Language.{StraightStatement, StraightTree, StraightBlock, branch, repeats}
-use Rattle.codegen.proofs.Language.{straight_tree, straight_block, TermTree}
+use Rattle.codegen.proofs.Language.{branch, repeats, StraightBlock, StraightTree, TermTree}
 use Rattle.codegen.proofs.BranchLengths.{branching_spans}
 use Rattle.codegen.proofs.LoopLengths.{repeat_spans}
 use Rattle.codegen.proofs.Machine.{statement_code, block_code, branching_code}
@@ -47,27 +46,6 @@ module _ (f : Frame) where
           (repeat_spans f depth x ys low high (any_sets x body)).0,
           ap (λ (l : List Instr). length l) (loop_is (any_sets x body) refl),
         )
-
-  -- the code of a list's end is no longer than that of all
-  code_behind : (depth : ℕ) (statements : List StraightStatement) (i : ℕ)
-      → length (code_of_all depth (straight_block (drop i statements)))
-      ≤ length (code_of_all depth (straight_block statements))
-  code_behind depth [] zero = omega arith
-  code_behind depth [] (suc i) = omega arith
-  code_behind depth (s ∷ rest) zero = omega arith
-  code_behind depth (s ∷ rest) (suc i) = omega (arith, length-append {A = Instr}, code_behind depth rest i)
-
-  -- so that of an item is not
-  pub part_here : (depth : ℕ) (statements : List StraightStatement) (i : ℕ) (item : StraightStatement)
-      → drop i statements ≡ item ∷ drop (i + 1) statements
-      → length (code_of depth (straight_tree item)) ≤ length (code_of_all depth (straight_block statements))
-  part_here depth statements i item here =
-      omega (
-        arith,
-        length-append {A = Instr},
-        ap (λ xs. length (code_of_all depth (straight_block xs))) here,
-        code_behind depth statements i,
-      )
 
 -- code that is emitted into no code is that code
 pub emitted : {old code new : List Instr} → new ≡ old ++ code → old ≡ [] → new ≡ code

@@ -3,6 +3,7 @@
 pub mod Jumps
 pub mod Words
 pub mod StoredValues
+pub mod WordPuts
 pub mod Compared
 pub mod Loops
 pub mod Erased

@@ -24,6 +24,7 @@ mod reading;
 mod statements;
 mod stored_values;
 mod unemitted;
+mod word_puts;
 
 pub use code::Code;
 pub use generator::{generate, generate_optimised, optimised_variables};

@@ -13,6 +13,7 @@ use crate::expression_code::{Layout, Location, emit, fetch, into};
 use crate::loops::Loop;
 use crate::reading::{assign, gives_zero, read};
 use crate::unemitted::Unemitted;
+use crate::word_puts::word_put;
 use crate::{arrays, comparing, jumping, loops, masking};
 use branch_removal::StraightStatement;
 use inline::Term;
@@ -185,7 +186,7 @@ fn statement(
     }
 }
 
-/// Statements that so many loops are around, one after the other.
+/// Statements that so many loops are around, one after the other. Four that put the bytes of a word are one store.
 #[cycle(statements)]
 pub fn statements(
     alloc: Global,
@@ -199,8 +200,15 @@ pub fn statements(
         ++ block_code layout.now depth (straight_block statements.now)) }
     ensures far { IfErr result (IsFar (length (block_code layout.now depth (straight_block statements.now)))) }
 {
-    for each in statements {
-        statement(alloc, code, layout, depth, each)?;
+    let mut rest = statements;
+    while let Some((each, more)) = rest.split_first() {
+        if let Some(put) = word_put(layout, rest) {
+            assign(code, layout, &Term::Variable(put.variable), put.offset)?;
+            rest = &more[3..];
+        } else {
+            statement(alloc, code, layout, depth, each)?;
+            rest = more;
+        }
     }
     Ok(())
 }

@@ -1,5 +1,5 @@
 -- The instructions that are emitted for statements.
-use Rattle.std.specs.Prelude.{ℕ, ◌+◌, ◌*◌, ◌==◌, Bool, true, false, List, [], ◌∷◌, ◌++◌, Option, None, Some}
+use Rattle.std.specs.Prelude.{ℕ, zero, suc, ◌+◌, ◌*◌, ◌==◌, Bool, true, false, List, [], ◌∷◌, ◌++◌, Option, None, Some}
 use Rattle.std.specs.Prelude.{if◌then◌else◌}
 use Rattle.codegen.specs.Below.{Add, Addi, And, array, array_words, Boolean, branch, element_bytes, first}
 use Rattle.codegen.specs.Below.{Immediate, Instr, Kind, Load, Lui, nothing, put, Register, repeats, Sb, set, Sh, Store}
@@ -13,6 +13,7 @@ pub use Rattle.codegen.specs.private.StoredValues.{cuts, stored_value, uncut}
 pub use Rattle.codegen.specs.private.Words.{assign_code, home_of_term, home_or, put_word_code, read_code}
 pub use Rattle.codegen.specs.private.Words.{gives_zero, read_register, stored_code, stored_register}
 pub use Rattle.codegen.specs.private.Words.{unless_home}
+pub use Rattle.codegen.specs.private.WordPuts.{word_code, word_put}
 use Rattle.codegen.specs.expression_code.Allocation.{is_unread, register_of}
 use Rattle.codegen.specs.expression_code.Layout.{Frame, variable_offset, variable_location, control_location}
 use Rattle.codegen.specs.expression_code.Layout.{term_layout}
@@ -232,11 +233,19 @@ module _ (layout : Frame) where
         ++ unless_unread (is_unread layout.allocation (control + 1))
         (kept_code (control_at (control + 1)) value_register)
     statement_code depth (branch condition accepted otherwise) =
-        branching_code layout condition (block_code depth accepted) (block_code depth otherwise)
+        branching_code layout condition (code_behind depth 0 accepted) (code_behind depth 0 otherwise)
     statement_code depth (repeats x low high body) =
-        repeat_code layout depth x low high (any_sets x body) (block_code (depth + 1) body)
+        repeat_code layout depth x low high (any_sets x body) (code_behind (depth + 1) 0 body)
 
-    -- of statements, one after the other
-    pub block_code : ℕ → StraightBlock → List Instr
-    block_code depth nothing = []
-    block_code depth (first statement rest) = statement_code depth statement ++ block_code depth rest
+    -- of statements behind so many first ones; where they begin with four that put a word, that is stored for these
+    pub code_behind : ℕ → ℕ → StraightBlock → List Instr
+    code_behind depth passed nothing = []
+    code_behind depth (suc passed) (first statement rest) = code_behind depth passed rest
+    code_behind depth zero (first statement rest) =
+        code_by (word_put layout.declared layout.allocation (first statement rest))
+        (λ word. word_code layout word ++ code_behind depth 3 rest)
+        (statement_code depth statement ++ code_behind depth 0 rest)
+
+  -- of statements, one after the other
+  abbrev pub block_code : ℕ → StraightBlock → List Instr
+  block_code depth block = code_behind depth 0 block

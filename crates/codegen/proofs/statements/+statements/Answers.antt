@@ -1,9 +1,9 @@
 use Rattle.std.proofs.Common.{rules, ◌≡◌, ◌++◌, length, List, refl, sym, ap, ◌∙◌, subst, arith, IfErr, OnOk}
 use Rattle.codegen.specs.Below.{straight_block}
 use Rattle.branch_removal.proofs.StatementTrees.{tree_of_branch, tree_of_loop, accepted_smaller, otherwise_smaller}
-use Rattle.branch_removal.proofs.StatementTrees.{body_smaller, item_here, smaller_here}
-use Rattle.codegen.proofs.Machine.{Instr, HavePlaces, IsFar}
-use Rattle.codegen.proofs.StatementCode.{arms_within, branch_is, body_within, loop_is, emitted, for_part, part_here}
+use Rattle.branch_removal.proofs.StatementTrees.{body_smaller}
+use Rattle.codegen.proofs.Machine.{Instr, IsFar}
+use Rattle.codegen.proofs.StatementCode.{arms_within, branch_is, body_within, loop_is, emitted, for_part}
 use Rattle.codegen.specs.private.Loops.{any_sets}
 use Rattle.codegen.proofs.statements.+statements.Goals as goal
 
@@ -55,17 +55,6 @@ statement-returns-in_ok-statements-in-Repeat t c =
       far = subst (λ (l : List Instr). IfErr c.repeat.result (IsFar (length l))) code c.repeat.ensures.far;
     }
 
-pub statements-statement-requires : goal.statements-statement-requires
-statements-statement-requires t c =
-    let f = c.args.layout.now in
-    let s = c.each-item.result in
-    let l = c.loop-each in
-    let here = item_here c.args.statements.now l.each-index s c.loop-each-test.true c.each-item.is in (
-      search (rules, smaller_here c.args.statements.now l.each-index s here),
-      (subst (λ xs. HavePlaces f c.args.depth (straight_block xs)) here
-          l.invariant.placed).0,
-    )
-
 -- Code that is not emitted.
 
 pub statement-returns-in_err-statements-in-Branch-clause-far :
@@ -103,11 +92,3 @@ statement-returns-in_err-statements-in-Repeat-clause-far t c =
     let tree = tree_of_loop r.body r.is c.deref-in-Repeat.ensures.value in
     for_part _ _ _ c.from_residual-in_err-statements-in-Repeat.ensures.1 c.in_err-statements-in-Repeat.ensures.far
     (omega (arith, body_within c.args.layout.now c.args.depth r.counter tree refl))
-
-pub statements-returns-in_err-statement-clause-far : goal.statements-returns-in_err-statement-clause-far
-statements-returns-in_err-statement-clause-far t c =
-    let s = c.each-item.result in
-    let l = c.loop-each in
-    let here = item_here c.args.statements.now l.each-index s c.loop-each-test.true c.each-item.is in
-    for_part _ _ _ c.from_residual.ensures.1 c.in_err-statement.ensures.far
-    (part_here c.args.layout.now c.args.depth c.args.statements.now l.each-index s here)
