@@ -6,7 +6,7 @@ use Rattle.std.proofs.lemmas.Option.{none-some}
 use Rattle.std.proofs.lemmas.Bool.{false_from_ne_true, not-true, or_parts, true≢false}
 use Rattle.codegen.proofs.Choices.{of_choice, when_not}
 use Rattle.codegen.proofs.HomesBut.{homes_left}
-use Rattle.codegen.proofs.Language.{array, branch, first, FlatVariable, put, repeats, set, element_bytes}
+use Rattle.codegen.proofs.Language.{array, branch, FlatVariable, put, repeats, set, element_bytes}
 use Rattle.codegen.proofs.Language.{StraightTree, take, TermTree}
 use Rattle.codegen.proofs.Machine.{branching_code, condition_code, failing, home_count, operands_or, right_code, Frame}
 use Rattle.codegen.proofs.Machine.{right_register, test_of, test_or, Allocation, at_home, control_location}

@@ -1,6 +1,6 @@
 -- The code of a program whose variables need not all be at home at first: until they are set, their slots count, as if
 -- they had no homes.
-use Rattle.std.proofs.Common.{◌≡◌, ◌∙◌, ap₂, refl, subst, None, ℕ, zero, suc, ◌+◌, ◌-◌, ◌*◌, ◌<◌, ◌≤◌, Bool, true, List, ◌++◌}
+use Rattle.std.proofs.Common.{◌≡◌, ◌∙◌, ap₂, refl, subst, None, ℕ, zero, suc, ◌+◌, ◌*◌, ◌<◌, ◌≤◌, Bool, true, List, ◌++◌}
 use Rattle.std.proofs.Common.{length, length-append, append_assoc, Option, Some, slice_get, slice_index}
 use Rattle.std.proofs.Common.{sym, arith}
 use Rattle.std.proofs.lemmas.Bool.{not-true}

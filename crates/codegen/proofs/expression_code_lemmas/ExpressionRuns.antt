@@ -3,7 +3,7 @@ use Rattle.std.proofs.Common.{◌≡◌, ℕ, ◌+◌, ◌-◌, ◌*◌, ◌%◌
 use Rattle.codegen.proofs.expression_code_lemmas.Below.{array_as, by_test, cheaper, keeps_words, expr_code, gives}
 use Rattle.codegen.proofs.expression_code_lemmas.Below.{TermHasType, height_of, home_of, into_code, of_binary}
 use Rattle.codegen.proofs.expression_code_lemmas.Below.{of_conversion, of_element, of_number, of_prefix, of_rotation}
-use Rattle.codegen.proofs.expression_code_lemmas.Below.{of_selection, of_truth, of_variable, operand, Place, slots_to}
+use Rattle.codegen.proofs.expression_code_lemmas.Below.{of_selection, of_truth, of_variable, Place, slots_to}
 use Rattle.codegen.proofs.expression_code_lemmas.Below.{term_nodes, TermTree, types_of, value_in, variable, Width}
 use Rattle.codegen.proofs.expression_code_lemmas.Below.{word_of, WordType, working_register, element, reached_code}
 use Rattle.codegen.proofs.expression_code_lemmas.Below.{is_sign, prefix, prefixed_code, PrefixOperator, sum_offset}

@@ -1,5 +1,5 @@
 -- An expression that joins bytes of the frame to a word has the word that lies there.
-use Rattle.std.proofs.Common.{◌≡◌, ℕ, zero, suc, ◌+◌, ◌*◌, ◌/◌, ◌%◌, ◌^◌, ◌<◌, ◌≤◌, ◌==◌, ◌&&◌, nat_lt, List, [], ◌∷◌}
+use Rattle.std.proofs.Common.{◌≡◌, ℕ, zero, suc, ◌+◌, ◌*◌, ◌/◌, ◌%◌, ◌^◌, ◌<◌, ◌≤◌, List, [], ◌∷◌}
 use Rattle.std.proofs.Common.{◌++◌, Bool, true, cond, Option, None, Some, slice_get, slice_index, bit_or, refl, sym, ap, ap₂}
 use Rattle.std.proofs.Common.{◌∙◌, ◌⊎◌, inl, inr, subst, arith, append_assoc, append-nil, mul_assoc, mul_comm, mul-suc}
 use Rattle.std.proofs.Common.{mul-le-mul_left, add-mul, mod-eq_of_lt, mul-lt-mul_of_pos_right, lt_of_lt_of_le, pow_pos}
@@ -11,7 +11,7 @@ use Rattle.codegen.proofs.expression_code_lemmas.Below.{along, array_as, binary,
 use Rattle.codegen.proofs.expression_code_lemmas.Below.{element, element_bytes, indexed, Instr, IsWithinKind, joined, Kind}
 use Rattle.codegen.proofs.expression_code_lemmas.Below.{kind_at, ltb-true, near_element, number_at, number_at-suc}
 use Rattle.codegen.proofs.expression_code_lemmas.Below.{number_at-zero, number_of, of_binary, of_conversion, of_element}
-use Rattle.codegen.proofs.expression_code_lemmas.Below.{operated, Path, path_in, Place, State, StraightState, TermHasType}
+use Rattle.codegen.proofs.expression_code_lemmas.Below.{Path, path_in, Place, State, StraightState, TermHasType}
 use Rattle.codegen.proofs.expression_code_lemmas.Below.{TermTree, types_of, value_in, Values, variable_offset, Width, WordType}
 use Rattle.codegen.proofs.expression_code_lemmas.Events.{by_known_index}
 use Rattle.inline.proofs.Fitting.{element_fits}

@@ -6,7 +6,7 @@ use Rattle.codegen.proofs.expression_code_lemmas.Below.{along, at_home, array_as
 use Rattle.codegen.proofs.expression_code_lemmas.Below.{by_test, near_place, Profile, State, StraightState, cheaper}
 use Rattle.codegen.proofs.expression_code_lemmas.Below.{Boolean, choice_code, choice_or_zero_code, chooses_zero, Label}
 use Rattle.codegen.proofs.expression_code_lemmas.Below.{constant_code, copy_code, Kind, element_code, expr_code}
-use Rattle.codegen.proofs.expression_code_lemmas.Below.{fetch_code, gives, home_of, InSlot, Instr, into_by, into_code}
+use Rattle.codegen.proofs.expression_code_lemmas.Below.{fetch_code, home_of, InSlot, Instr, into_by, into_code}
 use Rattle.codegen.proofs.expression_code_lemmas.Below.{left_row, lt-ltb, move_code, none, opposite_in, placed_code}
 use Rattle.codegen.proofs.expression_code_lemmas.Below.{number_at, number_code, number_row, NumberRow, of_binary}
 use Rattle.codegen.proofs.expression_code_lemmas.Below.{of_variable, operand, operated, Path, path_in, Place, right_row}

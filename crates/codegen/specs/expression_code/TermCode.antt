@@ -1,6 +1,6 @@
 -- The instructions that are emitted for slots, numbers, operators and expressions.
-use Rattle.std.specs.Prelude.{ℕ, zero, suc, ◌+◌, ◌-◌, ◌*◌, ◌/◌, ◌%◌, ◌^◌, ◌==◌, ◌<◌, ◌&&◌, Bool, true, false, List, []}
-use Rattle.std.specs.Prelude.{◌∷◌, ◌++◌, nat_lt, Option, None, Some, is_some, if◌then◌else◌, unwrap_or}
+use Rattle.std.specs.Prelude.{ℕ, ◌+◌, ◌-◌, ◌*◌, ◌/◌, ◌%◌, ◌^◌, ◌==◌, ◌<◌, ◌&&◌, Bool, true, false, List, []}
+use Rattle.std.specs.Prelude.{◌∷◌, ◌++◌, Option, None, Some, is_some, if◌then◌else◌, unwrap_or}
 use Rattle.codegen.specs.expression_code.Layout.{TermLayout, variable_offset, variable_location}
 use Rattle.codegen.specs.expression_code.Allocation.{register_of, Allocation, home_of, temporary, working_register}
 use Rattle.codegen.specs.expression_code.Allocation.{at_home, mirror_of}
