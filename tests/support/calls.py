@@ -153,8 +153,9 @@ class Call:
                 return f"byte {address - at} of parameter {number}"
         return f"the byte at sp {address - self.sp:+}"
 
-    def on_our_machine(self, words, most_steps, watch=None):
-        """Makes the call on a machine that has the room, the arguments on the stack and the arrays for its data, and nothing else."""
+    def on_our_machine(self, words, most_steps, watch=None, start=0):
+        """Makes the call on a machine that has the room, the arguments on the stack and the arrays for its data, and nothing else. The
+        function begins so many bytes behind the first word."""
         arena, rom = bytearray(self.arena), bytearray(self.rom)
         ranges = [(self.sp - self.function.room, self.function.room, True), *self.parts]
         parts = []
@@ -162,6 +163,7 @@ class Call:
             memory, at = self.memory(base)
             parts.append(Part(base, bytearray(memory[at : at + count]), stores))
         machine = Machine(words, CODE, self.registers, parts, self.function.profile)
+        machine.pc += start
         back = self.registers[1] & ~1
         steps = 0
         while machine.pc != back:

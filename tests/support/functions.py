@@ -4,14 +4,17 @@ import collections
 import re
 
 WORD = re.compile(r"^    \.word 0x([0-9a-f]{8})  # (.*)$")
-HEAD = re.compile(r"^# (\w+): made by factc [\d.]+ function; (\d+) words, (\d+) bytes of stack, profile ([12])$")
+HEAD = re.compile(r"^# (\w+): made by factc [\d.]+ function; (\d+) words(?: and (\d+) shared)?, (\d+) bytes of stack, profile ([12])$")
+# The symbol of the tail that functions of small code share, and the line that goes on to it, from a place in it on.
+TAIL = "factc.tail.1"
+ONWARD = re.compile(rf"^    jal x0, {re.escape(TAIL)}(?:\+(\d+))?$")
 ARRAY = re.compile(r"^parameter (\d+): an array$")
 SIZES = {"bool": 1, "uint8": 1, "uint16": 2, "uint32": 4}
 # What a loop does at once in the code around a body: by the type of elements how many a round copies and from how many on there
-# is a loop, and whether arrays may share a copier.
-Pace = collections.namedtuple("Pace", "round loop copier")
-FAST = Pace({"bool": 2, "uint8": 1, "uint16": 1, "uint32": 2}, {"bool": 8, "uint8": 4, "uint16": 4, "uint32": 8}, True)
-SMALL = Pace(dict.fromkeys(SIZES, 1), dict.fromkeys(SIZES, 4), False)
+# is a loop, whether arrays may share a copier, and how many steps it takes to go on to the tail.
+Pace = collections.namedtuple("Pace", "round loop copier onward")
+FAST = Pace({"bool": 2, "uint8": 1, "uint16": 1, "uint32": 2}, {"bool": 8, "uint8": 4, "uint16": 4, "uint32": 8}, True, 0)
+SMALL = Pace(dict.fromkeys(SIZES, 1), dict.fromkeys(SIZES, 4), False, 1)
 # From how many elements on an array goes by the copier.
 CALLED = {"bool": 4, "uint8": 4, "uint16": 2, "uint32": 5}
 
@@ -28,23 +31,33 @@ class Section:
         return other
 
 
+def jump_word(offset, register):
+    """The word of a jal so many bytes ahead."""
+    high = (offset >> 20 & 1) << 31 | (offset >> 1 & 0x3FF) << 21 | (offset >> 11 & 1) << 20 | (offset >> 12 & 0xFF) << 12
+    return high | register << 7 | 0x6F
+
+
 class Function:
-    """The sections of a function's text, with what its first line says."""
+    """The sections of a function's text, with what its first line says. Those of the tail that it shares, where it does, are behind
+    its own, as if a linker had put the tail there; `entry` is how many bytes from the tail's beginning on it is entered."""
 
     def __init__(self, text):
         lines = text.splitlines()
-        self.name, count, room, profile = HEAD.match(lines[0]).groups()
-        self.count, self.room, self.profile = int(count), int(room), int(profile)
-        self.sections, self.above = [], 0
+        self.name, count, shared, room, profile = HEAD.match(lines[0]).groups()
+        self.count, self.shared, self.room, self.profile = int(count), int(shared or 0), int(room), int(profile)
+        self.sections, self.above, self.entry = [], 0, None
         for line in lines[lines.index(f"{self.name}:") + 1 :]:
             self.take(line)
 
     def take(self, line):
-        word = WORD.match(line)
+        word, onward = WORD.match(line), ONWARD.match(line)
         if line.startswith("    # "):
             self.sections.append(Section(line.removeprefix("    # ")))
         elif word:
             self.sections[-1].words.append(int(word.group(1), 16))
+        elif onward:
+            self.entry = int(onward[1] or 0)
+            self.sections[-1].words.append(jump_word(4 + self.entry, 0))
         elif line.startswith("    .cfi_def_cfa_offset "):
             self.above = int(line.split()[1])
             self.sections[-1].changes.append((len(self.sections[-1].words), line.split()))
@@ -96,6 +109,8 @@ class Function:
 def changed(line, register, distance, kept):
     """What a line for a debugger makes of what was known."""
     numbers = [int(part.rstrip(",")) for part in line[1:]]
+    if line[0] == ".cfi_startproc":
+        return 2, 0, {}
     if line[0] == ".cfi_def_cfa_offset":
         return register, numbers[0], kept
     if line[0] == ".cfi_def_cfa":
@@ -139,7 +154,7 @@ def wrapper_steps(parameters, offsets, frame, result, kept, pointers=None, blank
                 steps += head + address(offsets[number]) + passed
             steps += back + address(offsets[number]) + unchanged if form == "mut" else 0
     steps += load(result) if result is not None else 1
-    return steps + address(low) + 1 + kept + zeroed(low + above) + 15
+    return steps + address(low) + 1 + kept + pace.onward + zeroed(low + above) + 15
 
 
 def zeroed(room):

@@ -2,9 +2,12 @@
 
 import collections
 
+from functions import jump_word
+
 NOTHING = 0x00000013  # addi x0, x0, 0
 LOAD, STORE, NUMBER = 0x03, 0x23, 0x13
 CALL = 0xF6F  # the lower bits of jal x30
+ONWARD = "on to the tail that functions share"
 COPIER = "from x5 to x6 up to x7, and back"
 
 
@@ -19,10 +22,6 @@ def store_word(offset, rs2, rs1, funct3):
 def branch_word(offset, rs2, rs1, funct3):
     high = (offset >> 12 & 1) << 31 | (offset >> 5 & 0x3F) << 25
     return high | rs2 << 20 | rs1 << 15 | funct3 << 12 | (offset >> 1 & 0xF) << 8 | (offset >> 11 & 1) << 7 | 0x63
-
-
-def call_word(offset):
-    return (offset >> 20 & 1) << 31 | (offset >> 1 & 0x3FF) << 21 | (offset >> 11 & 1) << 20 | (offset >> 12 & 0xFF) << 12 | CALL
 
 
 def with_target(word, register):
@@ -48,7 +47,7 @@ def aimed(sections):
     for section in sections[:-1]:
         for number, word in enumerate(section.words):
             if word & 0xFFF == CALL:
-                section.words[number] = call_word(4 * (end - at))
+                section.words[number] = jump_word(4 * (end - at), 30)
             at += 1
     return sections
 
@@ -154,6 +153,22 @@ def the_rest_behind_the_words_is_left_out(function):
     return sections
 
 
+def the_tail_is_entered_behind_its_loop(function):
+    """The room is not wiped."""
+    sections = function.copies()
+    wiping = titled(sections, "all the room, wiped upward")
+    exchange(titled(sections, ONWARD), jump_word(4, 0), jump_word(4 + 4 * len(wiping.words), 0))
+    return sections
+
+
+def the_tail_is_entered_with_another_x5(function):
+    """The room is wiped up to where x5 points, and x2 is that then."""
+    sections = function.copies()
+    right, wrong = (immediate_word(NUMBER, function.above - less, 5, 0, 5) for less in (0, 16))
+    exchange(titled(sections, "the caller's x2"), right, wrong)
+    return sections
+
+
 # Why qemu does not see that a function is wrong.
 LIST, MISALIGNED = "its list alone differs", "it loads misaligned words"
 
@@ -174,6 +189,8 @@ ALL = [
     Wrong("swap2", "one element more is copied back", one_element_more_is_copied_back, None),
     Wrong("mixed", "elements that are 0 are not copied", zeros_are_skipped, LIST),
     Wrong("table_lookup", "a const array is copied back", a_const_array_is_copied_back, None),
+    Wrong("swap2 -Os", "the tail is entered behind its loop", the_tail_is_entered_behind_its_loop, None),
+    Wrong("sha256_block -Os", "the tail is entered with x5 below the caller's x2", the_tail_is_entered_with_another_x5, None),
 ]
 
 
