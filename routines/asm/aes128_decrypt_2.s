@@ -1,4 +1,4 @@
-# aes128_decrypt_2: made by factc 1.0.0 function; 850 words, 528 bytes of stack, profile 1
+# aes128_decrypt_2: made by factc 1.0.0 function; 802 words, 528 bytes of stack, profile 1
     .option push
     .option norvc
     .option norelax
@@ -47,12 +47,12 @@ aes128_decrypt_2:
     .word 0x00050293  # addi x5, x10, 0
     .word 0x00010313  # addi x6, x2, 0
     .word 0x16028393  # addi x7, x5, 352
-    .word 0x4a900f6f  # jal x30, 3240
+    .word 0x3e900f6f  # jal x30, 3048
     # parameter 1: an array
     .word 0x00058293  # addi x5, x11, 0
     .word 0x16010313  # addi x6, x2, 352
     .word 0x02028393  # addi x7, x5, 32
-    .word 0x49900f6f  # jal x30, 3224
+    .word 0x3d900f6f  # jal x30, 3032
     # the body
     .word 0x555552b7  # lui x5, 0x55555
     .word 0x55528293  # addi x5, x5, 1365
@@ -763,62 +763,14 @@ aes128_decrypt_2:
     .word 0x00a4c4b3  # xor x9, x9, x10
     .word 0x00451313  # slli x6, x10, 4
     .word 0x006cccb3  # xor x25, x25, x6
-    .word 0x17610023  # sb x22, 352(x2)
-    .word 0x008b5293  # srli x5, x22, 8
-    .word 0x165100a3  # sb x5, 353(x2)
-    .word 0x010b5293  # srli x5, x22, 16
-    .word 0x16510123  # sb x5, 354(x2)
-    .word 0x018b5293  # srli x5, x22, 24
-    .word 0x165101a3  # sb x5, 355(x2)
-    .word 0x17810223  # sb x24, 356(x2)
-    .word 0x008c5293  # srli x5, x24, 8
-    .word 0x165102a3  # sb x5, 357(x2)
-    .word 0x010c5293  # srli x5, x24, 16
-    .word 0x16510323  # sb x5, 358(x2)
-    .word 0x018c5293  # srli x5, x24, 24
-    .word 0x165103a3  # sb x5, 359(x2)
-    .word 0x17a10423  # sb x26, 360(x2)
-    .word 0x008d5293  # srli x5, x26, 8
-    .word 0x165104a3  # sb x5, 361(x2)
-    .word 0x010d5293  # srli x5, x26, 16
-    .word 0x16510523  # sb x5, 362(x2)
-    .word 0x018d5293  # srli x5, x26, 24
-    .word 0x165105a3  # sb x5, 363(x2)
-    .word 0x16810623  # sb x8, 364(x2)
-    .word 0x00845293  # srli x5, x8, 8
-    .word 0x165106a3  # sb x5, 365(x2)
-    .word 0x01045293  # srli x5, x8, 16
-    .word 0x16510723  # sb x5, 366(x2)
-    .word 0x01845293  # srli x5, x8, 24
-    .word 0x165107a3  # sb x5, 367(x2)
-    .word 0x17710823  # sb x23, 368(x2)
-    .word 0x008bd293  # srli x5, x23, 8
-    .word 0x165108a3  # sb x5, 369(x2)
-    .word 0x010bd293  # srli x5, x23, 16
-    .word 0x16510923  # sb x5, 370(x2)
-    .word 0x018bd293  # srli x5, x23, 24
-    .word 0x165109a3  # sb x5, 371(x2)
-    .word 0x17910a23  # sb x25, 372(x2)
-    .word 0x008cd293  # srli x5, x25, 8
-    .word 0x16510aa3  # sb x5, 373(x2)
-    .word 0x010cd293  # srli x5, x25, 16
-    .word 0x16510b23  # sb x5, 374(x2)
-    .word 0x018cd293  # srli x5, x25, 24
-    .word 0x16510ba3  # sb x5, 375(x2)
-    .word 0x17b10c23  # sb x27, 376(x2)
-    .word 0x008dd293  # srli x5, x27, 8
-    .word 0x16510ca3  # sb x5, 377(x2)
-    .word 0x010dd293  # srli x5, x27, 16
-    .word 0x16510d23  # sb x5, 378(x2)
-    .word 0x018dd293  # srli x5, x27, 24
-    .word 0x16510da3  # sb x5, 379(x2)
-    .word 0x16910e23  # sb x9, 380(x2)
-    .word 0x0084d293  # srli x5, x9, 8
-    .word 0x16510ea3  # sb x5, 381(x2)
-    .word 0x0104d293  # srli x5, x9, 16
-    .word 0x16510f23  # sb x5, 382(x2)
-    .word 0x0184d293  # srli x5, x9, 24
-    .word 0x16510fa3  # sb x5, 383(x2)
+    .word 0x17612023  # sw x22, 352(x2)
+    .word 0x17812223  # sw x24, 356(x2)
+    .word 0x17a12423  # sw x26, 360(x2)
+    .word 0x16812623  # sw x8, 364(x2)
+    .word 0x17712823  # sw x23, 368(x2)
+    .word 0x17912a23  # sw x25, 372(x2)
+    .word 0x17b12c23  # sw x27, 376(x2)
+    .word 0x16912e23  # sw x9, 380(x2)
     # the result
     .word 0x00000513  # addi x10, x0, 0
     # parameter 1: the array, back

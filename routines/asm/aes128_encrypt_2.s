@@ -1,4 +1,4 @@
-# aes128_encrypt_2: made by factc 1.0.0 function; 750 words, 528 bytes of stack, profile 1
+# aes128_encrypt_2: made by factc 1.0.0 function; 702 words, 528 bytes of stack, profile 1
     .option push
     .option norvc
     .option norelax
@@ -47,12 +47,12 @@ aes128_encrypt_2:
     .word 0x00050293  # addi x5, x10, 0
     .word 0x00010313  # addi x6, x2, 0
     .word 0x16028393  # addi x7, x5, 352
-    .word 0x31900f6f  # jal x30, 2840
+    .word 0x25900f6f  # jal x30, 2648
     # parameter 1: an array
     .word 0x00058293  # addi x5, x11, 0
     .word 0x16010313  # addi x6, x2, 352
     .word 0x02028393  # addi x7, x5, 32
-    .word 0x30900f6f  # jal x30, 2824
+    .word 0x24900f6f  # jal x30, 2632
     # the body
     .word 0x555552b7  # lui x5, 0x55555
     .word 0x55528293  # addi x5, x5, 1365
@@ -663,62 +663,14 @@ aes128_encrypt_2:
     .word 0x011dcdb3  # xor x27, x27, x17
     .word 0x00489313  # slli x6, x17, 4
     .word 0x006bcbb3  # xor x23, x23, x6
-    .word 0x17410023  # sb x20, 352(x2)
-    .word 0x008a5293  # srli x5, x20, 8
-    .word 0x165100a3  # sb x5, 353(x2)
-    .word 0x010a5293  # srli x5, x20, 16
-    .word 0x16510123  # sb x5, 354(x2)
-    .word 0x018a5293  # srli x5, x20, 24
-    .word 0x165101a3  # sb x5, 355(x2)
-    .word 0x17610223  # sb x22, 356(x2)
-    .word 0x008b5293  # srli x5, x22, 8
-    .word 0x165102a3  # sb x5, 357(x2)
-    .word 0x010b5293  # srli x5, x22, 16
-    .word 0x16510323  # sb x5, 358(x2)
-    .word 0x018b5293  # srli x5, x22, 24
-    .word 0x165103a3  # sb x5, 359(x2)
-    .word 0x17810423  # sb x24, 360(x2)
-    .word 0x008c5293  # srli x5, x24, 8
-    .word 0x165104a3  # sb x5, 361(x2)
-    .word 0x010c5293  # srli x5, x24, 16
-    .word 0x16510523  # sb x5, 362(x2)
-    .word 0x018c5293  # srli x5, x24, 24
-    .word 0x165105a3  # sb x5, 363(x2)
-    .word 0x17a10623  # sb x26, 364(x2)
-    .word 0x008d5293  # srli x5, x26, 8
-    .word 0x165106a3  # sb x5, 365(x2)
-    .word 0x010d5293  # srli x5, x26, 16
-    .word 0x16510723  # sb x5, 366(x2)
-    .word 0x018d5293  # srli x5, x26, 24
-    .word 0x165107a3  # sb x5, 367(x2)
-    .word 0x17510823  # sb x21, 368(x2)
-    .word 0x008ad293  # srli x5, x21, 8
-    .word 0x165108a3  # sb x5, 369(x2)
-    .word 0x010ad293  # srli x5, x21, 16
-    .word 0x16510923  # sb x5, 370(x2)
-    .word 0x018ad293  # srli x5, x21, 24
-    .word 0x165109a3  # sb x5, 371(x2)
-    .word 0x17710a23  # sb x23, 372(x2)
-    .word 0x008bd293  # srli x5, x23, 8
-    .word 0x16510aa3  # sb x5, 373(x2)
-    .word 0x010bd293  # srli x5, x23, 16
-    .word 0x16510b23  # sb x5, 374(x2)
-    .word 0x018bd293  # srli x5, x23, 24
-    .word 0x16510ba3  # sb x5, 375(x2)
-    .word 0x17910c23  # sb x25, 376(x2)
-    .word 0x008cd293  # srli x5, x25, 8
-    .word 0x16510ca3  # sb x5, 377(x2)
-    .word 0x010cd293  # srli x5, x25, 16
-    .word 0x16510d23  # sb x5, 378(x2)
-    .word 0x018cd293  # srli x5, x25, 24
-    .word 0x16510da3  # sb x5, 379(x2)
-    .word 0x17b10e23  # sb x27, 380(x2)
-    .word 0x008dd293  # srli x5, x27, 8
-    .word 0x16510ea3  # sb x5, 381(x2)
-    .word 0x010dd293  # srli x5, x27, 16
-    .word 0x16510f23  # sb x5, 382(x2)
-    .word 0x018dd293  # srli x5, x27, 24
-    .word 0x16510fa3  # sb x5, 383(x2)
+    .word 0x17412023  # sw x20, 352(x2)
+    .word 0x17612223  # sw x22, 356(x2)
+    .word 0x17812423  # sw x24, 360(x2)
+    .word 0x17a12623  # sw x26, 364(x2)
+    .word 0x17512823  # sw x21, 368(x2)
+    .word 0x17712a23  # sw x23, 372(x2)
+    .word 0x17912c23  # sw x25, 376(x2)
+    .word 0x17b12e23  # sw x27, 380(x2)
     # the result
     .word 0x00000513  # addi x10, x0, 0
     # parameter 1: the array, back

@@ -1,4 +1,4 @@
-# aes128_expand: made by factc 1.0.0 function; 649 words, 560 bytes of stack, profile 1
+# aes128_expand: made by factc 1.0.0 function; 648 words, 560 bytes of stack, profile 1
     .option push
     .option norvc
     .option norelax
@@ -45,9 +45,8 @@ aes128_expand:
     .word 0x00050293  # addi x5, x10, 0
     .word 0x00010313  # addi x6, x2, 0
     .word 0x01028393  # addi x7, x5, 16
-    .word 0x18900f6f  # jal x30, 2440
+    .word 0x18500f6f  # jal x30, 2436
     # the body
-    .word 0x00000513  # addi x10, x0, 0
     .word 0x555552b7  # lui x5, 0x55555
     .word 0x55528293  # addi x5, x5, 1365
     .word 0x1c512623  # sw x5, 460(x2)

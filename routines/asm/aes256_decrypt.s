@@ -1,4 +1,4 @@
-# aes256_decrypt: made by factc 1.0.0 function; 1630 words, 736 bytes of stack, profile 1
+# aes256_decrypt: made by factc 1.0.0 function; 1629 words, 736 bytes of stack, profile 1
     .option push
     .option norvc
     .option norelax
@@ -47,14 +47,13 @@ aes256_decrypt:
     .word 0x00050293  # addi x5, x10, 0
     .word 0x00010313  # addi x6, x2, 0
     .word 0x02028393  # addi x7, x5, 32
-    .word 0x0d901f6f  # jal x30, 6360
+    .word 0x0d501f6f  # jal x30, 6356
     # parameter 1: an array
     .word 0x00058293  # addi x5, x11, 0
     .word 0x02010313  # addi x6, x2, 32
     .word 0x01028393  # addi x7, x5, 16
-    .word 0x0c901f6f  # jal x30, 6344
+    .word 0x0c501f6f  # jal x30, 6340
     # the body
-    .word 0x00000513  # addi x10, x0, 0
     .word 0x555552b7  # lui x5, 0x55555
     .word 0x55528293  # addi x5, x5, 1365
     .word 0x26512823  # sw x5, 624(x2)

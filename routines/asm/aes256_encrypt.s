@@ -1,4 +1,4 @@
-# aes256_encrypt: made by factc 1.0.0 function; 1320 words, 304 bytes of stack, profile 1
+# aes256_encrypt: made by factc 1.0.0 function; 1319 words, 304 bytes of stack, profile 1
     .option push
     .option norvc
     .option norelax
@@ -47,14 +47,13 @@ aes256_encrypt:
     .word 0x00050293  # addi x5, x10, 0
     .word 0x00010313  # addi x6, x2, 0
     .word 0x02028393  # addi x7, x5, 32
-    .word 0x40001f6f  # jal x30, 5120
+    .word 0x3fc01f6f  # jal x30, 5116
     # parameter 1: an array
     .word 0x00058293  # addi x5, x11, 0
     .word 0x02010313  # addi x6, x2, 32
     .word 0x01028393  # addi x7, x5, 16
-    .word 0x3f001f6f  # jal x30, 5104
+    .word 0x3ec01f6f  # jal x30, 5100
     # the body
-    .word 0x00000593  # addi x11, x0, 0
     .word 0x555552b7  # lui x5, 0x55555
     .word 0x55528293  # addi x5, x5, 1365
     .word 0x0c512223  # sw x5, 196(x2)

@@ -1,4 +1,4 @@
-# aes256_encrypt_2: made by factc 1.0.0 function; 750 words, 656 bytes of stack, profile 1
+# aes256_encrypt_2: made by factc 1.0.0 function; 702 words, 656 bytes of stack, profile 1
     .option push
     .option norvc
     .option norelax
@@ -47,12 +47,12 @@ aes256_encrypt_2:
     .word 0x00050293  # addi x5, x10, 0
     .word 0x00010313  # addi x6, x2, 0
     .word 0x1e028393  # addi x7, x5, 480
-    .word 0x31900f6f  # jal x30, 2840
+    .word 0x25900f6f  # jal x30, 2648
     # parameter 1: an array
     .word 0x00058293  # addi x5, x11, 0
     .word 0x1e010313  # addi x6, x2, 480
     .word 0x02028393  # addi x7, x5, 32
-    .word 0x30900f6f  # jal x30, 2824
+    .word 0x24900f6f  # jal x30, 2632
     # the body
     .word 0x555552b7  # lui x5, 0x55555
     .word 0x55528293  # addi x5, x5, 1365
@@ -663,62 +663,14 @@ aes256_encrypt_2:
     .word 0x011dcdb3  # xor x27, x27, x17
     .word 0x00489313  # slli x6, x17, 4
     .word 0x006bcbb3  # xor x23, x23, x6
-    .word 0x1f410023  # sb x20, 480(x2)
-    .word 0x008a5293  # srli x5, x20, 8
-    .word 0x1e5100a3  # sb x5, 481(x2)
-    .word 0x010a5293  # srli x5, x20, 16
-    .word 0x1e510123  # sb x5, 482(x2)
-    .word 0x018a5293  # srli x5, x20, 24
-    .word 0x1e5101a3  # sb x5, 483(x2)
-    .word 0x1f610223  # sb x22, 484(x2)
-    .word 0x008b5293  # srli x5, x22, 8
-    .word 0x1e5102a3  # sb x5, 485(x2)
-    .word 0x010b5293  # srli x5, x22, 16
-    .word 0x1e510323  # sb x5, 486(x2)
-    .word 0x018b5293  # srli x5, x22, 24
-    .word 0x1e5103a3  # sb x5, 487(x2)
-    .word 0x1f810423  # sb x24, 488(x2)
-    .word 0x008c5293  # srli x5, x24, 8
-    .word 0x1e5104a3  # sb x5, 489(x2)
-    .word 0x010c5293  # srli x5, x24, 16
-    .word 0x1e510523  # sb x5, 490(x2)
-    .word 0x018c5293  # srli x5, x24, 24
-    .word 0x1e5105a3  # sb x5, 491(x2)
-    .word 0x1fa10623  # sb x26, 492(x2)
-    .word 0x008d5293  # srli x5, x26, 8
-    .word 0x1e5106a3  # sb x5, 493(x2)
-    .word 0x010d5293  # srli x5, x26, 16
-    .word 0x1e510723  # sb x5, 494(x2)
-    .word 0x018d5293  # srli x5, x26, 24
-    .word 0x1e5107a3  # sb x5, 495(x2)
-    .word 0x1f510823  # sb x21, 496(x2)
-    .word 0x008ad293  # srli x5, x21, 8
-    .word 0x1e5108a3  # sb x5, 497(x2)
-    .word 0x010ad293  # srli x5, x21, 16
-    .word 0x1e510923  # sb x5, 498(x2)
-    .word 0x018ad293  # srli x5, x21, 24
-    .word 0x1e5109a3  # sb x5, 499(x2)
-    .word 0x1f710a23  # sb x23, 500(x2)
-    .word 0x008bd293  # srli x5, x23, 8
-    .word 0x1e510aa3  # sb x5, 501(x2)
-    .word 0x010bd293  # srli x5, x23, 16
-    .word 0x1e510b23  # sb x5, 502(x2)
-    .word 0x018bd293  # srli x5, x23, 24
-    .word 0x1e510ba3  # sb x5, 503(x2)
-    .word 0x1f910c23  # sb x25, 504(x2)
-    .word 0x008cd293  # srli x5, x25, 8
-    .word 0x1e510ca3  # sb x5, 505(x2)
-    .word 0x010cd293  # srli x5, x25, 16
-    .word 0x1e510d23  # sb x5, 506(x2)
-    .word 0x018cd293  # srli x5, x25, 24
-    .word 0x1e510da3  # sb x5, 507(x2)
-    .word 0x1fb10e23  # sb x27, 508(x2)
-    .word 0x008dd293  # srli x5, x27, 8
-    .word 0x1e510ea3  # sb x5, 509(x2)
-    .word 0x010dd293  # srli x5, x27, 16
-    .word 0x1e510f23  # sb x5, 510(x2)
-    .word 0x018dd293  # srli x5, x27, 24
-    .word 0x1e510fa3  # sb x5, 511(x2)
+    .word 0x1f412023  # sw x20, 480(x2)
+    .word 0x1f612223  # sw x22, 484(x2)
+    .word 0x1f812423  # sw x24, 488(x2)
+    .word 0x1fa12623  # sw x26, 492(x2)
+    .word 0x1f512823  # sw x21, 496(x2)
+    .word 0x1f712a23  # sw x23, 500(x2)
+    .word 0x1f912c23  # sw x25, 504(x2)
+    .word 0x1fb12e23  # sw x27, 508(x2)
     # the result
     .word 0x00000513  # addi x10, x0, 0
     # parameter 1: the array, back

@@ -1,4 +1,4 @@
-# aes256_expand: made by factc 1.0.0 function; 760 words, 656 bytes of stack, profile 1
+# aes256_expand: made by factc 1.0.0 function; 759 words, 656 bytes of stack, profile 1
     .option push
     .option norvc
     .option norelax
@@ -45,9 +45,8 @@ aes256_expand:
     .word 0x00050293  # addi x5, x10, 0
     .word 0x00010313  # addi x6, x2, 0
     .word 0x02028393  # addi x7, x5, 32
-    .word 0x34500f6f  # jal x30, 2884
+    .word 0x34100f6f  # jal x30, 2880
     # the body
-    .word 0x00000513  # addi x10, x0, 0
     .word 0x555552b7  # lui x5, 0x55555
     .word 0x55528293  # addi x5, x5, 1365
     .word 0x22512c23  # sw x5, 568(x2)

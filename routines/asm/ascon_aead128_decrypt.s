@@ -1,4 +1,4 @@
-# ascon_aead128_decrypt: made by factc 1.0.0 function; 900 words, 352 bytes of stack, profile 1
+# ascon_aead128_decrypt: made by factc 1.0.0 function; 899 words, 352 bytes of stack, profile 1
     .option push
     .option norvc
     .option norelax
@@ -52,33 +52,32 @@ ascon_aead128_decrypt:
     .word 0x00050293  # addi x5, x10, 0
     .word 0x00010313  # addi x6, x2, 0
     .word 0x01028393  # addi x7, x5, 16
-    .word 0x56100f6f  # jal x30, 3424
+    .word 0x55d00f6f  # jal x30, 3420
     # parameter 1: an array
     .word 0x00058293  # addi x5, x11, 0
     .word 0x01010313  # addi x6, x2, 16
     .word 0x01028393  # addi x7, x5, 16
-    .word 0x55100f6f  # jal x30, 3408
+    .word 0x54d00f6f  # jal x30, 3404
     # parameter 2: an array
     .word 0x00060293  # addi x5, x12, 0
     .word 0x02010313  # addi x6, x2, 32
     .word 0x04028393  # addi x7, x5, 64
-    .word 0x54100f6f  # jal x30, 3392
+    .word 0x53d00f6f  # jal x30, 3388
     # parameter 3: a word
     .word 0x06d12023  # sw x13, 96(x2)
     # parameter 4: an array
     .word 0x00070293  # addi x5, x14, 0
     .word 0x06410313  # addi x6, x2, 100
     .word 0x04028393  # addi x7, x5, 64
-    .word 0x52d00f6f  # jal x30, 3372
+    .word 0x52900f6f  # jal x30, 3368
     # parameter 5: a word
     .word 0x0af12223  # sw x15, 164(x2)
     # parameter 6: an array
     .word 0x00080293  # addi x5, x16, 0
     .word 0x0a810313  # addi x6, x2, 168
     .word 0x01028393  # addi x7, x5, 16
-    .word 0x51900f6f  # jal x30, 3352
+    .word 0x51500f6f  # jal x30, 3348
     # the body
-    .word 0x00000613  # addi x12, x0, 0
     .word 0x800002b7  # lui x5, 0x80000
     .word 0x00028293  # addi x5, x5, 0
     .word 0x0e512223  # sw x5, 228(x2)

@@ -1,4 +1,4 @@
-# ascon_aead128_encrypt: made by factc 1.0.0 function; 864 words, 336 bytes of stack, profile 1
+# ascon_aead128_encrypt: made by factc 1.0.0 function; 839 words, 336 bytes of stack, profile 1
     .option push
     .option norvc
     .option norelax
@@ -52,28 +52,27 @@ ascon_aead128_encrypt:
     .word 0x00050293  # addi x5, x10, 0
     .word 0x00010313  # addi x6, x2, 0
     .word 0x01028393  # addi x7, x5, 16
-    .word 0x4cd00f6f  # jal x30, 3276
+    .word 0x46900f6f  # jal x30, 3176
     # parameter 1: an array
     .word 0x00058293  # addi x5, x11, 0
     .word 0x01010313  # addi x6, x2, 16
     .word 0x01028393  # addi x7, x5, 16
-    .word 0x4bd00f6f  # jal x30, 3260
+    .word 0x45900f6f  # jal x30, 3160
     # parameter 2: an array
     .word 0x00060293  # addi x5, x12, 0
     .word 0x02010313  # addi x6, x2, 32
     .word 0x04028393  # addi x7, x5, 64
-    .word 0x4ad00f6f  # jal x30, 3244
+    .word 0x44900f6f  # jal x30, 3144
     # parameter 3: a word
     .word 0x06d12023  # sw x13, 96(x2)
     # parameter 4: an array
     .word 0x00070293  # addi x5, x14, 0
     .word 0x06410313  # addi x6, x2, 100
     .word 0x04028393  # addi x7, x5, 64
-    .word 0x49900f6f  # jal x30, 3224
+    .word 0x43500f6f  # jal x30, 3124
     # parameter 5: a word
     .word 0x0af12223  # sw x15, 164(x2)
     # the body
-    .word 0x00000613  # addi x12, x0, 0
     .word 0x800002b7  # lui x5, 0x80000
     .word 0x00028293  # addi x5, x5, 0
     .word 0x0c512e23  # sw x5, 220(x2)
@@ -805,34 +804,10 @@ ascon_aead128_encrypt:
     .word 0x006d4d33  # xor x26, x26, x6
     .word 0xff660293  # addi x5, x12, -10
     .word 0xd8029663  # bne x5, x0, -2676
-    .word 0x0b710423  # sb x23, 168(x2)
-    .word 0x008bd293  # srli x5, x23, 8
-    .word 0x0a5104a3  # sb x5, 169(x2)
-    .word 0x010bd293  # srli x5, x23, 16
-    .word 0x0a510523  # sb x5, 170(x2)
-    .word 0x018bd293  # srli x5, x23, 24
-    .word 0x0a5105a3  # sb x5, 171(x2)
-    .word 0x0b110623  # sb x17, 172(x2)
-    .word 0x0088d293  # srli x5, x17, 8
-    .word 0x0a5106a3  # sb x5, 173(x2)
-    .word 0x0108d293  # srli x5, x17, 16
-    .word 0x0a510723  # sb x5, 174(x2)
-    .word 0x0188d293  # srli x5, x17, 24
-    .word 0x0a5107a3  # sb x5, 175(x2)
-    .word 0x0ba10823  # sb x26, 176(x2)
-    .word 0x008d5293  # srli x5, x26, 8
-    .word 0x0a5108a3  # sb x5, 177(x2)
-    .word 0x010d5293  # srli x5, x26, 16
-    .word 0x0a510923  # sb x5, 178(x2)
-    .word 0x018d5293  # srli x5, x26, 24
-    .word 0x0a5109a3  # sb x5, 179(x2)
-    .word 0x0b510a23  # sb x21, 180(x2)
-    .word 0x008ad293  # srli x5, x21, 8
-    .word 0x0a510aa3  # sb x5, 181(x2)
-    .word 0x010ad293  # srli x5, x21, 16
-    .word 0x0a510b23  # sb x5, 182(x2)
-    .word 0x018ad293  # srli x5, x21, 24
-    .word 0x0a510ba3  # sb x5, 183(x2)
+    .word 0x0b712423  # sw x23, 168(x2)
+    .word 0x0b112623  # sw x17, 172(x2)
+    .word 0x0ba12823  # sw x26, 176(x2)
+    .word 0x0b512a23  # sw x21, 180(x2)
     # the result
     .word 0x00000513  # addi x10, x0, 0
     # parameter 4: the array, back

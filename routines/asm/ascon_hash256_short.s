@@ -1,4 +1,4 @@
-# ascon_hash256_short: made by factc 1.0.0 function; 392 words, 384 bytes of stack, profile 1
+# ascon_hash256_short: made by factc 1.0.0 function; 391 words, 384 bytes of stack, profile 1
     .option push
     .option norvc
     .option norelax
@@ -46,7 +46,7 @@ ascon_hash256_short:
     .word 0x00050293  # addi x5, x10, 0
     .word 0x00010313  # addi x6, x2, 0
     .word 0x07c28393  # addi x7, x5, 124
-    .word 0x59800f6f  # jal x30, 1432
+    .word 0x59400f6f  # jal x30, 1428
     .word 0x0002ce03  # lbu x28, 0(x5)
     .word 0x01c30023  # sb x28, 0(x6)
     .word 0x0012ce03  # lbu x28, 1(x5)
@@ -59,10 +59,9 @@ ascon_hash256_short:
     .word 0x00060293  # addi x5, x12, 0
     .word 0x08410313  # addi x6, x2, 132
     .word 0x02028393  # addi x7, x5, 32
-    .word 0x56c00f6f  # jal x30, 1388
+    .word 0x56800f6f  # jal x30, 1384
     # the body
     .word 0x00000513  # addi x10, x0, 0
-    .word 0x00000613  # addi x12, x0, 0
     .word 0x00000a13  # addi x20, x0, 0
     .word 0x00000b13  # addi x22, x0, 0
     .word 0x00000493  # addi x9, x0, 0

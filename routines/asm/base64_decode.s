@@ -1,4 +1,4 @@
-# base64_decode: made by factc 1.0.0 function; 177 words, 176 bytes of stack, profile 1
+# base64_decode: made by factc 1.0.0 function; 175 words, 176 bytes of stack, profile 1
     .option push
     .option norvc
     .option norelax
@@ -30,18 +30,16 @@ base64_decode:
     .word 0x00050293  # addi x5, x10, 0
     .word 0x00010313  # addi x6, x2, 0
     .word 0x04028393  # addi x7, x5, 64
-    .word 0x24400f6f  # jal x30, 580
+    .word 0x23c00f6f  # jal x30, 572
     # parameter 1: a word
     .word 0x04b12023  # sw x11, 64(x2)
     # parameter 2: an array
     .word 0x00060293  # addi x5, x12, 0
     .word 0x04410313  # addi x6, x2, 68
     .word 0x03028393  # addi x7, x5, 48
-    .word 0x23000f6f  # jal x30, 560
+    .word 0x22800f6f  # jal x30, 552
     # the body
     .word 0x04012503  # lw x10, 64(x2)
-    .word 0x00000713  # addi x14, x0, 0
-    .word 0x00000893  # addi x17, x0, 0
     .word 0x00010a37  # lui x20, 0x00010
     .word 0xf00a0a13  # addi x20, x20, -256
     .word 0x00357293  # andi x5, x10, 3

@@ -1,4 +1,4 @@
-# base64_encode: made by factc 1.0.0 function; 179 words, 160 bytes of stack, profile 1
+# base64_encode: made by factc 1.0.0 function; 178 words, 160 bytes of stack, profile 1
     .option push
     .option norvc
     .option norelax
@@ -28,17 +28,16 @@ base64_encode:
     .word 0x00050293  # addi x5, x10, 0
     .word 0x00010313  # addi x6, x2, 0
     .word 0x03028393  # addi x7, x5, 48
-    .word 0x25000f6f  # jal x30, 592
+    .word 0x24c00f6f  # jal x30, 588
     # parameter 1: a word
     .word 0x02b12823  # sw x11, 48(x2)
     # parameter 2: an array
     .word 0x00060293  # addi x5, x12, 0
     .word 0x03410313  # addi x6, x2, 52
     .word 0x04028393  # addi x7, x5, 64
-    .word 0x23c00f6f  # jal x30, 572
+    .word 0x23800f6f  # jal x30, 568
     # the body
     .word 0x03012503  # lw x10, 48(x2)
-    .word 0x00000593  # addi x11, x0, 0
     .word 0xfff00593  # addi x11, x0, -1
     .word 0x00158593  # addi x11, x11, 1
     .word 0x00259613  # slli x12, x11, 2

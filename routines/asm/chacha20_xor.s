@@ -1,4 +1,4 @@
-# chacha20_xor: made by factc 1.0.0 function; 686 words, 240 bytes of stack, profile 1
+# chacha20_xor: made by factc 1.0.0 function; 685 words, 240 bytes of stack, profile 1
     .option push
     .option norvc
     .option norelax
@@ -49,25 +49,24 @@ chacha20_xor:
     .word 0x00050293  # addi x5, x10, 0
     .word 0x00010313  # addi x6, x2, 0
     .word 0x02028393  # addi x7, x5, 32
-    .word 0x22900f6f  # jal x30, 2600
+    .word 0x22500f6f  # jal x30, 2596
     # parameter 1: a word
     .word 0x02b12023  # sw x11, 32(x2)
     # parameter 2: an array
     .word 0x00060293  # addi x5, x12, 0
     .word 0x02410313  # addi x6, x2, 36
     .word 0x00c28393  # addi x7, x5, 12
-    .word 0x21500f6f  # jal x30, 2580
+    .word 0x21100f6f  # jal x30, 2576
     # parameter 3: an array
     .word 0x00068293  # addi x5, x13, 0
     .word 0x03010313  # addi x6, x2, 48
     .word 0x04028393  # addi x7, x5, 64
-    .word 0x20500f6f  # jal x30, 2564
+    .word 0x20100f6f  # jal x30, 2560
     # parameter 4: a word
     .word 0x06e12823  # sw x14, 112(x2)
     # the body
     .word 0x02012503  # lw x10, 32(x2)
     .word 0x07012583  # lw x11, 112(x2)
-    .word 0x00000d93  # addi x27, x0, 0
     .word 0x61708637  # lui x12, 0x61708
     .word 0x86560613  # addi x12, x12, -1947
     .word 0x332066b7  # lui x13, 0x33206

@@ -1,4 +1,4 @@
-# compare_32: made by factc 1.0.0 function; 118 words, 80 bytes of stack, profile 1
+# compare_32: made by factc 1.0.0 function; 117 words, 80 bytes of stack, profile 1
     .option push
     .option norvc
     .option norelax
@@ -20,14 +20,13 @@ compare_32:
     .word 0x00050293  # addi x5, x10, 0
     .word 0x00010313  # addi x6, x2, 0
     .word 0x02028393  # addi x7, x5, 32
-    .word 0x17400f6f  # jal x30, 372
+    .word 0x17000f6f  # jal x30, 368
     # parameter 1: an array
     .word 0x00058293  # addi x5, x11, 0
     .word 0x02010313  # addi x6, x2, 32
     .word 0x02028393  # addi x7, x5, 32
-    .word 0x16400f6f  # jal x30, 356
+    .word 0x16000f6f  # jal x30, 352
     # the body
-    .word 0x00000693  # addi x13, x0, 0
     .word 0x00000513  # addi x10, x0, 0
     .word 0x00000593  # addi x11, x0, 0
     .word 0xfff00693  # addi x13, x0, -1

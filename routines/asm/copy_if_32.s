@@ -1,4 +1,4 @@
-# copy_if_32: made by factc 1.0.0 function; 97 words, 96 bytes of stack, profile 1
+# copy_if_32: made by factc 1.0.0 function; 96 words, 96 bytes of stack, profile 1
     .option push
     .option norvc
     .option norelax
@@ -27,15 +27,14 @@ copy_if_32:
     .word 0x00058293  # addi x5, x11, 0
     .word 0x00410313  # addi x6, x2, 4
     .word 0x02028393  # addi x7, x5, 32
-    .word 0x10800f6f  # jal x30, 264
+    .word 0x10400f6f  # jal x30, 260
     # parameter 2: an array
     .word 0x00060293  # addi x5, x12, 0
     .word 0x02410313  # addi x6, x2, 36
     .word 0x02028393  # addi x7, x5, 32
-    .word 0x0f800f6f  # jal x30, 248
+    .word 0x0f400f6f  # jal x30, 244
     # the body
     .word 0x00012503  # lw x10, 0(x2)
-    .word 0x00000613  # addi x12, x0, 0
     .word 0x40a005b3  # sub x11, x0, x10
     .word 0xfff00613  # addi x12, x0, -1
     .word 0x00160613  # addi x12, x12, 1

@@ -1,4 +1,4 @@
-# crc32: made by factc 1.0.0 function; 108 words, 96 bytes of stack, profile 1
+# crc32: made by factc 1.0.0 function; 107 words, 96 bytes of stack, profile 1
     .option push
     .option norvc
     .option norelax
@@ -22,13 +22,12 @@ crc32:
     .word 0x00058293  # addi x5, x11, 0
     .word 0x00410313  # addi x6, x2, 4
     .word 0x04028393  # addi x7, x5, 64
-    .word 0x14800f6f  # jal x30, 328
+    .word 0x14400f6f  # jal x30, 324
     # parameter 2: a word
     .word 0x04c12223  # sw x12, 68(x2)
     # the body
     .word 0x00012503  # lw x10, 0(x2)
     .word 0x04412583  # lw x11, 68(x2)
-    .word 0x00000713  # addi x14, x0, 0
     .word 0xfff54613  # xori x12, x10, -1
     .word 0xedb886b7  # lui x13, 0xedb88
     .word 0x32068693  # addi x13, x13, 800

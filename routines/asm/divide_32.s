@@ -1,4 +1,4 @@
-# divide_32: made by factc 1.0.0 function; 59 words, 48 bytes of stack, profile 1
+# divide_32: made by factc 1.0.0 function; 58 words, 48 bytes of stack, profile 1
     .option push
     .option norvc
     .option norelax
@@ -27,7 +27,6 @@ divide_32:
     # the body
     .word 0x00012503  # lw x10, 0(x2)
     .word 0x00412583  # lw x11, 4(x2)
-    .word 0x00000713  # addi x14, x0, 0
     .word 0x00000613  # addi x12, x0, 0
     .word 0x00050693  # addi x13, x10, 0
     .word 0xfff00713  # addi x14, x0, -1

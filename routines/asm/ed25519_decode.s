@@ -1,4 +1,4 @@
-# ed25519_decode: made by factc 1.0.0 function; 2105 words, 928 bytes of stack, profile 1
+# ed25519_decode: made by factc 1.0.0 function; 2103 words, 928 bytes of stack, profile 1
     .option push
     .option norvc
     .option norelax
@@ -51,9 +51,8 @@ ed25519_decode:
     .word 0x00050293  # addi x5, x10, 0
     .word 0x00010313  # addi x6, x2, 0
     .word 0x02028393  # addi x7, x5, 32
-    .word 0x03c02f6f  # jal x30, 8252
+    .word 0x03402f6f  # jal x30, 8244
     # the body
-    .word 0x00000693  # addi x13, x0, 0
     .word 0x800002b7  # lui x5, 0x80000
     .word 0xfff28293  # addi x5, x5, -1
     .word 0x32512e23  # sw x5, 828(x2)
@@ -463,7 +462,7 @@ ed25519_decode:
     .word 0x34812283  # lw x5, 840(x2)
     .word 0x005332b3  # sltu x5, x6, x5
     .word 0x00029463  # bne x5, x0, 8
-    .word 0x2800106f  # jal x0, 4736
+    .word 0x27c0106f  # jal x0, 4732
     .word 0x30612623  # sw x6, 780(x2)
     .word 0x00130313  # addi x6, x6, 1
     .word 0x34612223  # sw x6, 836(x2)
@@ -1240,7 +1239,7 @@ ed25519_decode:
     .word 0x00229293  # slli x5, x5, 2
     .word 0x002282b3  # add x5, x5, x2
     .word 0x0662ae23  # sw x6, 124(x5)
-    .word 0x6580006f  # jal x0, 1624
+    .word 0x6540006f  # jal x0, 1620
     .word 0x31012283  # lw x5, 784(x2)
     .word 0x00200313  # addi x6, x0, 2
     .word 0x22629463  # bne x5, x6, 552
@@ -1380,7 +1379,7 @@ ed25519_decode:
     .word 0x00229293  # slli x5, x5, 2
     .word 0x002282b3  # add x5, x5, x2
     .word 0x06f2ae23  # sw x15, 124(x5)
-    .word 0x4280006f  # jal x0, 1064
+    .word 0x4240006f  # jal x0, 1060
     .word 0x31012283  # lw x5, 784(x2)
     .word 0x00300313  # addi x6, x0, 3
     .word 0x1e629863  # bne x5, x6, 496
@@ -1506,7 +1505,7 @@ ed25519_decode:
     .word 0x00229293  # slli x5, x5, 2
     .word 0x002282b3  # add x5, x5, x2
     .word 0x0662ae23  # sw x6, 124(x5)
-    .word 0x2300006f  # jal x0, 560
+    .word 0x22c0006f  # jal x0, 556
     .word 0x31c12283  # lw x5, 796(x2)
     .word 0x00229293  # slli x5, x5, 2
     .word 0x002282b3  # add x5, x5, x2
@@ -1554,8 +1553,7 @@ ed25519_decode:
     .word 0x002282b3  # add x5, x5, x2
     .word 0x07c2a283  # lw x5, 124(x5)
     .word 0x00e282b3  # add x5, x5, x14
-    .word 0x01f2d293  # srli x5, x5, 31
-    .word 0x405002b3  # sub x5, x0, x5
+    .word 0x41f2d293  # srai x5, x5, 31
     .word 0x0132f713  # andi x14, x5, 19
     .word 0x31c12283  # lw x5, 796(x2)
     .word 0x00229293  # slli x5, x5, 2
@@ -1646,7 +1644,7 @@ ed25519_decode:
     .word 0x00229293  # slli x5, x5, 2
     .word 0x002282b3  # add x5, x5, x2
     .word 0x0662ae23  # sw x6, 124(x5)
-    .word 0xd75fe06f  # jal x0, -4748
+    .word 0xd79fe06f  # jal x0, -4744
     .word 0x20012703  # lw x14, 512(x2)
     .word 0x22012583  # lw x11, 544(x2)
     .word 0x20412303  # lw x6, 516(x2)

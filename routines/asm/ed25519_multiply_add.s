@@ -1,4 +1,4 @@
-# ed25519_multiply_add: made by factc 1.0.0 function; 1160 words, 320 bytes of stack, profile 1
+# ed25519_multiply_add: made by factc 1.0.0 function; 1112 words, 320 bytes of stack, profile 1
     .option push
     .option norvc
     .option norelax
@@ -47,17 +47,17 @@ ed25519_multiply_add:
     .word 0x00050293  # addi x5, x10, 0
     .word 0x00010313  # addi x6, x2, 0
     .word 0x02028393  # addi x7, x5, 32
-    .word 0x17c01f6f  # jal x30, 4476
+    .word 0x0bc01f6f  # jal x30, 4284
     # parameter 1: an array
     .word 0x00058293  # addi x5, x11, 0
     .word 0x02010313  # addi x6, x2, 32
     .word 0x02028393  # addi x7, x5, 32
-    .word 0x16c01f6f  # jal x30, 4460
+    .word 0x0ac01f6f  # jal x30, 4268
     # parameter 2: an array
     .word 0x00060293  # addi x5, x12, 0
     .word 0x04010313  # addi x6, x2, 64
     .word 0x02028393  # addi x7, x5, 32
-    .word 0x15c01f6f  # jal x30, 4444
+    .word 0x09c01f6f  # jal x30, 4252
     # the body
     .word 0x5cf5dcb7  # lui x25, 0x5cf5d
     .word 0x3edc8c93  # addi x25, x25, 1005
@@ -1074,62 +1074,14 @@ ed25519_multiply_add:
     .word 0x00e2f533  # and x10, x5, x14
     .word 0x00ab0633  # add x12, x22, x10
     .word 0x00b60b33  # add x22, x12, x11
-    .word 0x07710023  # sb x23, 96(x2)
-    .word 0x008bd293  # srli x5, x23, 8
-    .word 0x065100a3  # sb x5, 97(x2)
-    .word 0x010bd293  # srli x5, x23, 16
-    .word 0x06510123  # sb x5, 98(x2)
-    .word 0x018bd293  # srli x5, x23, 24
-    .word 0x065101a3  # sb x5, 99(x2)
-    .word 0x06d10223  # sb x13, 100(x2)
-    .word 0x0086d293  # srli x5, x13, 8
-    .word 0x065102a3  # sb x5, 101(x2)
-    .word 0x0106d293  # srli x5, x13, 16
-    .word 0x06510323  # sb x5, 102(x2)
-    .word 0x0186d293  # srli x5, x13, 24
-    .word 0x065103a3  # sb x5, 103(x2)
-    .word 0x07110423  # sb x17, 104(x2)
-    .word 0x0088d293  # srli x5, x17, 8
-    .word 0x065104a3  # sb x5, 105(x2)
-    .word 0x0108d293  # srli x5, x17, 16
-    .word 0x06510523  # sb x5, 106(x2)
-    .word 0x0188d293  # srli x5, x17, 24
-    .word 0x065105a3  # sb x5, 107(x2)
-    .word 0x07210623  # sb x18, 108(x2)
-    .word 0x00895293  # srli x5, x18, 8
-    .word 0x065106a3  # sb x5, 109(x2)
-    .word 0x01095293  # srli x5, x18, 16
-    .word 0x06510723  # sb x5, 110(x2)
-    .word 0x01895293  # srli x5, x18, 24
-    .word 0x065107a3  # sb x5, 111(x2)
-    .word 0x07310823  # sb x19, 112(x2)
-    .word 0x0089d293  # srli x5, x19, 8
-    .word 0x065108a3  # sb x5, 113(x2)
-    .word 0x0109d293  # srli x5, x19, 16
-    .word 0x06510923  # sb x5, 114(x2)
-    .word 0x0189d293  # srli x5, x19, 24
-    .word 0x065109a3  # sb x5, 115(x2)
-    .word 0x07410a23  # sb x20, 116(x2)
-    .word 0x008a5293  # srli x5, x20, 8
-    .word 0x06510aa3  # sb x5, 117(x2)
-    .word 0x010a5293  # srli x5, x20, 16
-    .word 0x06510b23  # sb x5, 118(x2)
-    .word 0x018a5293  # srli x5, x20, 24
-    .word 0x06510ba3  # sb x5, 119(x2)
-    .word 0x07510c23  # sb x21, 120(x2)
-    .word 0x008ad293  # srli x5, x21, 8
-    .word 0x06510ca3  # sb x5, 121(x2)
-    .word 0x010ad293  # srli x5, x21, 16
-    .word 0x06510d23  # sb x5, 122(x2)
-    .word 0x018ad293  # srli x5, x21, 24
-    .word 0x06510da3  # sb x5, 123(x2)
-    .word 0x07610e23  # sb x22, 124(x2)
-    .word 0x008b5293  # srli x5, x22, 8
-    .word 0x06510ea3  # sb x5, 125(x2)
-    .word 0x010b5293  # srli x5, x22, 16
-    .word 0x06510f23  # sb x5, 126(x2)
-    .word 0x018b5293  # srli x5, x22, 24
-    .word 0x06510fa3  # sb x5, 127(x2)
+    .word 0x07712023  # sw x23, 96(x2)
+    .word 0x06d12223  # sw x13, 100(x2)
+    .word 0x07112423  # sw x17, 104(x2)
+    .word 0x07212623  # sw x18, 108(x2)
+    .word 0x07312823  # sw x19, 112(x2)
+    .word 0x07412a23  # sw x20, 116(x2)
+    .word 0x07512c23  # sw x21, 120(x2)
+    .word 0x07612e23  # sw x22, 124(x2)
     # the result
     .word 0x00000513  # addi x10, x0, 0
     # parameter 3: the array, back

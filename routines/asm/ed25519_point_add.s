@@ -1,4 +1,4 @@
-# ed25519_point_add: made by factc 1.0.0 function; 883 words, 1072 bytes of stack, profile 1
+# ed25519_point_add: made by factc 1.0.0 function; 882 words, 1072 bytes of stack, profile 1
     .option push
     .option norvc
     .option norelax
@@ -46,12 +46,12 @@ ed25519_point_add:
     .word 0x00050293  # addi x5, x10, 0
     .word 0x00010313  # addi x6, x2, 0
     .word 0x08028393  # addi x7, x5, 128
-    .word 0x52d00f6f  # jal x30, 3372
+    .word 0x52900f6f  # jal x30, 3368
     # parameter 1: an array
     .word 0x00058293  # addi x5, x11, 0
     .word 0x08010313  # addi x6, x2, 128
     .word 0x08028393  # addi x7, x5, 128
-    .word 0x51d00f6f  # jal x30, 3356
+    .word 0x51900f6f  # jal x30, 3352
     # the body
     .word 0x800002b7  # lui x5, 0x80000
     .word 0xfff28293  # addi x5, x5, -1
@@ -297,7 +297,7 @@ ed25519_point_add:
     .word 0x3e012283  # lw x5, 992(x2)
     .word 0x005332b3  # sltu x5, x6, x5
     .word 0x00029463  # bne x5, x0, 8
-    .word 0x7ac0006f  # jal x0, 1964
+    .word 0x7a80006f  # jal x0, 1960
     .word 0x3c612623  # sw x6, 972(x2)
     .word 0x00130313  # addi x6, x6, 1
     .word 0x3c612e23  # sw x6, 988(x2)
@@ -550,7 +550,7 @@ ed25519_point_add:
     .word 0x1984aa23  # sw x24, 404(x9)
     .word 0x1994ac23  # sw x25, 408(x9)
     .word 0x1924ae23  # sw x18, 412(x9)
-    .word 0x3b40006f  # jal x0, 948
+    .word 0x3b00006f  # jal x0, 944
     .word 0x00100313  # addi x6, x0, 1
     .word 0x16661863  # bne x12, x6, 368
     .word 0x180d2683  # lw x13, 384(x26)
@@ -643,7 +643,7 @@ ed25519_point_add:
     .word 0x1974aa23  # sw x23, 404(x9)
     .word 0x1984ac23  # sw x24, 408(x9)
     .word 0x1914ae23  # sw x17, 412(x9)
-    .word 0x2400006f  # jal x0, 576
+    .word 0x23c0006f  # jal x0, 572
     .word 0x00200313  # addi x6, x0, 2
     .word 0x14661263  # bne x12, x6, 324
     .word 0x180d2683  # lw x13, 384(x26)
@@ -725,7 +725,7 @@ ed25519_point_add:
     .word 0x010c3833  # sltu x16, x24, x16
     .word 0x410c82b3  # sub x5, x25, x16
     .word 0x1854ae23  # sw x5, 412(x9)
-    .word 0x0f80006f  # jal x0, 248
+    .word 0x0f40006f  # jal x0, 244
     .word 0x1804a283  # lw x5, 384(x9)
     .word 0x01328293  # addi x5, x5, 19
     .word 0x0132b813  # sltiu x16, x5, 19
@@ -749,8 +749,7 @@ ed25519_point_add:
     .word 0x0102b833  # sltu x16, x5, x16
     .word 0x19c4a283  # lw x5, 412(x9)
     .word 0x010282b3  # add x5, x5, x16
-    .word 0x01f2d293  # srli x5, x5, 31
-    .word 0x405002b3  # sub x5, x0, x5
+    .word 0x41f2d293  # srai x5, x5, 31
     .word 0x0132f813  # andi x16, x5, 19
     .word 0x1804a283  # lw x5, 384(x9)
     .word 0x010286b3  # add x13, x5, x16
@@ -787,7 +786,7 @@ ed25519_point_add:
     .word 0x3d412303  # lw x6, 980(x2)
     .word 0x0062f2b3  # and x5, x5, x6
     .word 0x1854ae23  # sw x5, 412(x9)
-    .word 0x849ff06f  # jal x0, -1976
+    .word 0x84dff06f  # jal x0, -1972
     .word 0x18012283  # lw x5, 384(x2)
     .word 0x10512023  # sw x5, 256(x2)
     .word 0x18412283  # lw x5, 388(x2)

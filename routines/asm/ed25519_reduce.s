@@ -1,4 +1,4 @@
-# ed25519_reduce: made by factc 1.0.0 function; 940 words, 240 bytes of stack, profile 1
+# ed25519_reduce: made by factc 1.0.0 function; 892 words, 240 bytes of stack, profile 1
     .option push
     .option norvc
     .option norelax
@@ -47,7 +47,7 @@ ed25519_reduce:
     .word 0x00050293  # addi x5, x10, 0
     .word 0x00010313  # addi x6, x2, 0
     .word 0x04028393  # addi x7, x5, 64
-    .word 0x61100f6f  # jal x30, 3600
+    .word 0x55100f6f  # jal x30, 3408
     # the body
     .word 0x5cf5dd37  # lui x26, 0x5cf5d
     .word 0x3edd0d13  # addi x26, x26, 1005
@@ -852,62 +852,14 @@ ed25519_reduce:
     .word 0x00d2f733  # and x14, x5, x13
     .word 0x00eb05b3  # add x11, x22, x14
     .word 0x00a58b33  # add x22, x11, x10
-    .word 0x05710023  # sb x23, 64(x2)
-    .word 0x008bd293  # srli x5, x23, 8
-    .word 0x045100a3  # sb x5, 65(x2)
-    .word 0x010bd293  # srli x5, x23, 16
-    .word 0x04510123  # sb x5, 66(x2)
-    .word 0x018bd293  # srli x5, x23, 24
-    .word 0x045101a3  # sb x5, 67(x2)
-    .word 0x04c10223  # sb x12, 68(x2)
-    .word 0x00865293  # srli x5, x12, 8
-    .word 0x045102a3  # sb x5, 69(x2)
-    .word 0x01065293  # srli x5, x12, 16
-    .word 0x04510323  # sb x5, 70(x2)
-    .word 0x01865293  # srli x5, x12, 24
-    .word 0x045103a3  # sb x5, 71(x2)
-    .word 0x05110423  # sb x17, 72(x2)
-    .word 0x0088d293  # srli x5, x17, 8
-    .word 0x045104a3  # sb x5, 73(x2)
-    .word 0x0108d293  # srli x5, x17, 16
-    .word 0x04510523  # sb x5, 74(x2)
-    .word 0x0188d293  # srli x5, x17, 24
-    .word 0x045105a3  # sb x5, 75(x2)
-    .word 0x05210623  # sb x18, 76(x2)
-    .word 0x00895293  # srli x5, x18, 8
-    .word 0x045106a3  # sb x5, 77(x2)
-    .word 0x01095293  # srli x5, x18, 16
-    .word 0x04510723  # sb x5, 78(x2)
-    .word 0x01895293  # srli x5, x18, 24
-    .word 0x045107a3  # sb x5, 79(x2)
-    .word 0x05310823  # sb x19, 80(x2)
-    .word 0x0089d293  # srli x5, x19, 8
-    .word 0x045108a3  # sb x5, 81(x2)
-    .word 0x0109d293  # srli x5, x19, 16
-    .word 0x04510923  # sb x5, 82(x2)
-    .word 0x0189d293  # srli x5, x19, 24
-    .word 0x045109a3  # sb x5, 83(x2)
-    .word 0x05410a23  # sb x20, 84(x2)
-    .word 0x008a5293  # srli x5, x20, 8
-    .word 0x04510aa3  # sb x5, 85(x2)
-    .word 0x010a5293  # srli x5, x20, 16
-    .word 0x04510b23  # sb x5, 86(x2)
-    .word 0x018a5293  # srli x5, x20, 24
-    .word 0x04510ba3  # sb x5, 87(x2)
-    .word 0x05510c23  # sb x21, 88(x2)
-    .word 0x008ad293  # srli x5, x21, 8
-    .word 0x04510ca3  # sb x5, 89(x2)
-    .word 0x010ad293  # srli x5, x21, 16
-    .word 0x04510d23  # sb x5, 90(x2)
-    .word 0x018ad293  # srli x5, x21, 24
-    .word 0x04510da3  # sb x5, 91(x2)
-    .word 0x05610e23  # sb x22, 92(x2)
-    .word 0x008b5293  # srli x5, x22, 8
-    .word 0x04510ea3  # sb x5, 93(x2)
-    .word 0x010b5293  # srli x5, x22, 16
-    .word 0x04510f23  # sb x5, 94(x2)
-    .word 0x018b5293  # srli x5, x22, 24
-    .word 0x04510fa3  # sb x5, 95(x2)
+    .word 0x05712023  # sw x23, 64(x2)
+    .word 0x04c12223  # sw x12, 68(x2)
+    .word 0x05112423  # sw x17, 72(x2)
+    .word 0x05212623  # sw x18, 76(x2)
+    .word 0x05312823  # sw x19, 80(x2)
+    .word 0x05412a23  # sw x20, 84(x2)
+    .word 0x05512c23  # sw x21, 88(x2)
+    .word 0x05612e23  # sw x22, 92(x2)
     # the result
     .word 0x00000513  # addi x10, x0, 0
     # parameter 1: the array, back

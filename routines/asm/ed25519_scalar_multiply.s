@@ -1,4 +1,4 @@
-# ed25519_scalar_multiply: made by factc 1.0.0 function; 2160 words, 2096 bytes of stack, profile 1
+# ed25519_scalar_multiply: made by factc 1.0.0 function; 2156 words, 2096 bytes of stack, profile 1
     .option push
     .option norvc
     .option norelax
@@ -48,21 +48,18 @@ ed25519_scalar_multiply:
     .word 0x00050293  # addi x5, x10, 0
     .word 0x00010313  # addi x6, x2, 0
     .word 0x02028393  # addi x7, x5, 32
-    .word 0x11c02f6f  # jal x30, 8476
+    .word 0x10c02f6f  # jal x30, 8460
     # parameter 1: an array
     .word 0x00058293  # addi x5, x11, 0
     .word 0x02010313  # addi x6, x2, 32
     .word 0x04028393  # addi x7, x5, 64
-    .word 0x10c02f6f  # jal x30, 8460
+    .word 0x0fc02f6f  # jal x30, 8444
     # parameter 2: an array
     .word 0x00060293  # addi x5, x12, 0
     .word 0x06010313  # addi x6, x2, 96
     .word 0x04028393  # addi x7, x5, 64
-    .word 0x0fc02f6f  # jal x30, 8444
+    .word 0x0ec02f6f  # jal x30, 8428
     # the body
-    .word 0x00000793  # addi x15, x0, 0
-    .word 0x00279d93  # slli x27, x15, 2
-    .word 0x002d8db3  # add x27, x27, x2
     .word 0x800002b7  # lui x5, 0x80000
     .word 0xfff28293  # addi x5, x5, -1
     .word 0x7c512023  # sw x5, 1984(x2)
@@ -528,7 +525,7 @@ ed25519_scalar_multiply:
     .word 0x7d412283  # lw x5, 2004(x2)
     .word 0x005332b3  # sltu x5, x6, x5
     .word 0x00029463  # bne x5, x0, 8
-    .word 0x0f50106f  # jal x0, 6388
+    .word 0x0f10106f  # jal x0, 6384
     .word 0x76612a23  # sw x6, 1908(x2)
     .word 0x00130313  # addi x6, x6, 1
     .word 0x7c612823  # sw x6, 2000(x2)
@@ -1944,7 +1941,7 @@ ed25519_scalar_multiply:
     .word 0x15433313  # sltiu x6, x6, 340
     .word 0x00133313  # sltiu x6, x6, 1
     .word 0x0062e2b3  # or x5, x5, x6
-    .word 0x12028463  # beq x5, x0, 296
+    .word 0x12028263  # beq x5, x0, 292
     .word 0x77412283  # lw x5, 1908(x2)
     .word 0x0012b293  # sltiu x5, x5, 1
     .word 0x04800313  # addi x6, x0, 72
@@ -1980,8 +1977,7 @@ ed25519_scalar_multiply:
     .word 0x0102b833  # sltu x16, x5, x16
     .word 0x0bcd2283  # lw x5, 188(x26)
     .word 0x010282b3  # add x5, x5, x16
-    .word 0x01f2d293  # srli x5, x5, 31
-    .word 0x405002b3  # sub x5, x0, x5
+    .word 0x41f2d293  # srai x5, x5, 31
     .word 0x0132f813  # andi x16, x5, 19
     .word 0x0a0d2283  # lw x5, 160(x26)
     .word 0x010286b3  # add x13, x5, x16
@@ -2124,7 +2120,7 @@ ed25519_scalar_multiply:
     .word 0xffd78293  # addi x5, x15, -3
     .word 0xfc029ae3  # bne x5, x0, -44
     .word 0xf8dff06f  # jal x0, -116
-    .word 0xf00fe06f  # jal x0, -6400
+    .word 0xf04fe06f  # jal x0, -6396
     .word 0x77012283  # lw x5, 1904(x2)
     .word 0x0012b293  # sltiu x5, x5, 1
     .word 0x7c512623  # sw x5, 1996(x2)

@@ -1,4 +1,4 @@
-# equal_32: made by factc 1.0.0 function; 80 words, 80 bytes of stack, profile 1
+# equal_32: made by factc 1.0.0 function; 79 words, 80 bytes of stack, profile 1
     .option push
     .option norvc
     .option norelax
@@ -20,14 +20,13 @@ equal_32:
     .word 0x00050293  # addi x5, x10, 0
     .word 0x00010313  # addi x6, x2, 0
     .word 0x02028393  # addi x7, x5, 32
-    .word 0x0dc00f6f  # jal x30, 220
+    .word 0x0d800f6f  # jal x30, 216
     # parameter 1: an array
     .word 0x00058293  # addi x5, x11, 0
     .word 0x02010313  # addi x6, x2, 32
     .word 0x02028393  # addi x7, x5, 32
-    .word 0x0cc00f6f  # jal x30, 204
+    .word 0x0c800f6f  # jal x30, 200
     # the body
-    .word 0x00000593  # addi x11, x0, 0
     .word 0x00000513  # addi x10, x0, 0
     .word 0xfff00593  # addi x11, x0, -1
     .word 0x00158593  # addi x11, x11, 1

@@ -1,4 +1,4 @@
-# f25519_add: made by factc 1.0.0 function; 212 words, 160 bytes of stack, profile 1
+# f25519_add: made by factc 1.0.0 function; 211 words, 160 bytes of stack, profile 1
     .option push
     .option norvc
     .option norelax
@@ -42,12 +42,12 @@ f25519_add:
     .word 0x00050293  # addi x5, x10, 0
     .word 0x00010313  # addi x6, x2, 0
     .word 0x02028393  # addi x7, x5, 32
-    .word 0x2b800f6f  # jal x30, 696
+    .word 0x2b400f6f  # jal x30, 692
     # parameter 1: an array
     .word 0x00058293  # addi x5, x11, 0
     .word 0x02010313  # addi x6, x2, 32
     .word 0x02028393  # addi x7, x5, 32
-    .word 0x2a800f6f  # jal x30, 680
+    .word 0x2a400f6f  # jal x30, 676
     # the body
     .word 0x00012503  # lw x10, 0(x2)
     .word 0x02012583  # lw x11, 32(x2)
@@ -146,8 +146,7 @@ f25519_add:
     .word 0x00ac82b3  # add x5, x25, x10
     .word 0x00a2b533  # sltu x10, x5, x10
     .word 0x00ad02b3  # add x5, x26, x10
-    .word 0x01f2d293  # srli x5, x5, 31
-    .word 0x405002b3  # sub x5, x0, x5
+    .word 0x41f2d293  # srai x5, x5, 31
     .word 0x0132f513  # andi x10, x5, 19
     .word 0x00a985b3  # add x11, x19, x10
     .word 0x00a5b533  # sltu x10, x11, x10

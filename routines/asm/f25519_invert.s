@@ -1,4 +1,4 @@
-# f25519_invert: made by factc 1.0.0 function; 1003 words, 784 bytes of stack, profile 1
+# f25519_invert: made by factc 1.0.0 function; 1002 words, 784 bytes of stack, profile 1
     .option push
     .option norvc
     .option norelax
@@ -45,7 +45,7 @@ f25519_invert:
     .word 0x00050293  # addi x5, x10, 0
     .word 0x00010313  # addi x6, x2, 0
     .word 0x02028393  # addi x7, x5, 32
-    .word 0x71100f6f  # jal x30, 3856
+    .word 0x70d00f6f  # jal x30, 3852
     # the body
     .word 0x800002b7  # lui x5, 0x80000
     .word 0xfff28293  # addi x5, x5, -1
@@ -917,8 +917,7 @@ f25519_invert:
     .word 0x00e2b733  # sltu x14, x5, x14
     .word 0x0fc12283  # lw x5, 252(x2)
     .word 0x00e282b3  # add x5, x5, x14
-    .word 0x01f2d293  # srli x5, x5, 31
-    .word 0x405002b3  # sub x5, x0, x5
+    .word 0x41f2d293  # srai x5, x5, 31
     .word 0x0132f713  # andi x14, x5, 19
     .word 0x0e012283  # lw x5, 224(x2)
     .word 0x00e285b3  # add x11, x5, x14

@@ -1,4 +1,4 @@
-# f25519_multiply: made by factc 1.0.0 function; 385 words, 240 bytes of stack, profile 1
+# f25519_multiply: made by factc 1.0.0 function; 383 words, 240 bytes of stack, profile 1
     .option push
     .option norvc
     .option norelax
@@ -46,14 +46,13 @@ f25519_multiply:
     .word 0x00050293  # addi x5, x10, 0
     .word 0x00010313  # addi x6, x2, 0
     .word 0x02028393  # addi x7, x5, 32
-    .word 0x56400f6f  # jal x30, 1380
+    .word 0x55c00f6f  # jal x30, 1372
     # parameter 1: an array
     .word 0x00058293  # addi x5, x11, 0
     .word 0x02010313  # addi x6, x2, 32
     .word 0x02028393  # addi x7, x5, 32
-    .word 0x55400f6f  # jal x30, 1364
+    .word 0x54c00f6f  # jal x30, 1356
     # the body
-    .word 0x00000613  # addi x12, x0, 0
     .word 0x06000313  # addi x6, x0, 96
     .word 0x00230333  # add x6, x6, x2
     .word 0x02000393  # addi x7, x0, 32
@@ -318,8 +317,7 @@ f25519_multiply:
     .word 0x00a282b3  # add x5, x5, x10
     .word 0x00a2b533  # sltu x10, x5, x10
     .word 0x00a702b3  # add x5, x14, x10
-    .word 0x01f2d293  # srli x5, x5, 31
-    .word 0x405002b3  # sub x5, x0, x5
+    .word 0x41f2d293  # srai x5, x5, 31
     .word 0x0132f513  # andi x10, x5, 19
     .word 0x00a805b3  # add x11, x16, x10
     .word 0x00a5b533  # sltu x10, x11, x10

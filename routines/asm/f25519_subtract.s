@@ -1,4 +1,4 @@
-# f25519_subtract: made by factc 1.0.0 function; 251 words, 144 bytes of stack, profile 1
+# f25519_subtract: made by factc 1.0.0 function; 250 words, 144 bytes of stack, profile 1
     .option push
     .option norvc
     .option norelax
@@ -34,12 +34,12 @@ f25519_subtract:
     .word 0x00050293  # addi x5, x10, 0
     .word 0x00010313  # addi x6, x2, 0
     .word 0x02028393  # addi x7, x5, 32
-    .word 0x36400f6f  # jal x30, 868
+    .word 0x36000f6f  # jal x30, 864
     # parameter 1: an array
     .word 0x00058293  # addi x5, x11, 0
     .word 0x02010313  # addi x6, x2, 32
     .word 0x02028393  # addi x7, x5, 32
-    .word 0x35400f6f  # jal x30, 852
+    .word 0x35000f6f  # jal x30, 848
     # the body
     .word 0x00012283  # lw x5, 0(x2)
     .word 0xfb428613  # addi x12, x5, -76
@@ -185,8 +185,7 @@ f25519_subtract:
     .word 0x00ea82b3  # add x5, x21, x14
     .word 0x00e2b733  # sltu x14, x5, x14
     .word 0x00eb02b3  # add x5, x22, x14
-    .word 0x01f2d293  # srli x5, x5, 31
-    .word 0x405002b3  # sub x5, x0, x5
+    .word 0x41f2d293  # srai x5, x5, 31
     .word 0x0132f713  # andi x14, x5, 19
     .word 0x00e78633  # add x12, x15, x14
     .word 0x00e63733  # sltu x14, x12, x14

@@ -1,4 +1,4 @@
-# gf256_multiply: made by factc 1.0.0 function; 132 words, 112 bytes of stack, profile 1
+# gf256_multiply: made by factc 1.0.0 function; 130 words, 112 bytes of stack, profile 1
     .option push
     .option norvc
     .option norelax
@@ -30,20 +30,18 @@ gf256_multiply:
     .word 0x00050293  # addi x5, x10, 0
     .word 0x00010313  # addi x6, x2, 0
     .word 0x01028393  # addi x7, x5, 16
-    .word 0x19000f6f  # jal x30, 400
+    .word 0x18800f6f  # jal x30, 392
     # parameter 1: an array
     .word 0x00058293  # addi x5, x11, 0
     .word 0x01010313  # addi x6, x2, 16
     .word 0x01028393  # addi x7, x5, 16
-    .word 0x18000f6f  # jal x30, 384
+    .word 0x17800f6f  # jal x30, 376
     # parameter 2: an array
     .word 0x00060293  # addi x5, x12, 0
     .word 0x02010313  # addi x6, x2, 32
     .word 0x01028393  # addi x7, x5, 16
-    .word 0x17000f6f  # jal x30, 368
+    .word 0x16800f6f  # jal x30, 360
     # the body
-    .word 0x00000693  # addi x13, x0, 0
-    .word 0x00000913  # addi x18, x0, 0
     .word 0x01010537  # lui x10, 0x01010
     .word 0x10150513  # addi x10, x10, 257
     .word 0x1b1b25b7  # lui x11, 0x1b1b2

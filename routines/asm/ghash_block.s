@@ -1,4 +1,4 @@
-# ghash_block: made by factc 1.0.0 function; 301 words, 128 bytes of stack, profile 1
+# ghash_block: made by factc 1.0.0 function; 354 words, 128 bytes of stack, profile 1
     .option push
     .option norvc
     .option norelax
@@ -13,8 +13,8 @@ ghash_block:
     .word 0xfc010113  # addi x2, x2, -64
     .cfi_def_cfa_offset 64
     # the caller's registers
-    .word 0x00912023  # sw x9, 0(x2)
-    .cfi_offset 9, -64
+    .word 0x00812023  # sw x8, 0(x2)
+    .cfi_offset 8, -64
     .word 0x01212223  # sw x18, 4(x2)
     .cfi_offset 18, -60
     .word 0x01312423  # sw x19, 8(x2)
@@ -46,65 +46,131 @@ ghash_block:
     .word 0x00050293  # addi x5, x10, 0
     .word 0x00010313  # addi x6, x2, 0
     .word 0x01028393  # addi x7, x5, 16
-    .word 0x41400f6f  # jal x30, 1044
+    .word 0x4e800f6f  # jal x30, 1256
     # parameter 1: an array
     .word 0x00058293  # addi x5, x11, 0
     .word 0x01010313  # addi x6, x2, 16
     .word 0x01028393  # addi x7, x5, 16
-    .word 0x40400f6f  # jal x30, 1028
+    .word 0x4d800f6f  # jal x30, 1240
     # parameter 2: an array
     .word 0x00060293  # addi x5, x12, 0
     .word 0x02010313  # addi x6, x2, 32
     .word 0x01028393  # addi x7, x5, 16
-    .word 0x3f400f6f  # jal x30, 1012
+    .word 0x4c800f6f  # jal x30, 1224
     # the body
-    .word 0x00000913  # addi x18, x0, 0
-    .word 0x002904b3  # add x9, x18, x2
-    .word 0x00000513  # addi x10, x0, 0
-    .word 0x00000593  # addi x11, x0, 0
-    .word 0x00000613  # addi x12, x0, 0
-    .word 0x00000693  # addi x13, x0, 0
-    .word 0x00000713  # addi x14, x0, 0
-    .word 0x00000793  # addi x15, x0, 0
-    .word 0x00000813  # addi x16, x0, 0
-    .word 0x00000893  # addi x17, x0, 0
-    .word 0xfff00913  # addi x18, x0, -1
-    .word 0x00190913  # addi x18, x18, 1
-    .word 0x002904b3  # add x9, x18, x2
-    .word 0x00851293  # slli x5, x10, 8
-    .word 0x0004c303  # lbu x6, 0(x9)
+    .word 0x00014283  # lbu x5, 0(x2)
+    .word 0x01829293  # slli x5, x5, 24
+    .word 0x00114303  # lbu x6, 1(x2)
+    .word 0x01031313  # slli x6, x6, 16
+    .word 0x0062e433  # or x8, x5, x6
+    .word 0x00214303  # lbu x6, 2(x2)
+    .word 0x00831313  # slli x6, x6, 8
+    .word 0x006462b3  # or x5, x8, x6
+    .word 0x00314303  # lbu x6, 3(x2)
     .word 0x0062e533  # or x10, x5, x6
-    .word 0x00859293  # slli x5, x11, 8
-    .word 0x0044c303  # lbu x6, 4(x9)
+    .word 0x00414283  # lbu x5, 4(x2)
+    .word 0x01829293  # slli x5, x5, 24
+    .word 0x00514303  # lbu x6, 5(x2)
+    .word 0x01031313  # slli x6, x6, 16
+    .word 0x0062e433  # or x8, x5, x6
+    .word 0x00614303  # lbu x6, 6(x2)
+    .word 0x00831313  # slli x6, x6, 8
+    .word 0x006462b3  # or x5, x8, x6
+    .word 0x00714303  # lbu x6, 7(x2)
     .word 0x0062e5b3  # or x11, x5, x6
-    .word 0x00861293  # slli x5, x12, 8
-    .word 0x0084c303  # lbu x6, 8(x9)
+    .word 0x00814283  # lbu x5, 8(x2)
+    .word 0x01829293  # slli x5, x5, 24
+    .word 0x00914303  # lbu x6, 9(x2)
+    .word 0x01031313  # slli x6, x6, 16
+    .word 0x0062e433  # or x8, x5, x6
+    .word 0x00a14303  # lbu x6, 10(x2)
+    .word 0x00831313  # slli x6, x6, 8
+    .word 0x006462b3  # or x5, x8, x6
+    .word 0x00b14303  # lbu x6, 11(x2)
     .word 0x0062e633  # or x12, x5, x6
-    .word 0x00869293  # slli x5, x13, 8
-    .word 0x00c4c303  # lbu x6, 12(x9)
+    .word 0x00c14283  # lbu x5, 12(x2)
+    .word 0x01829293  # slli x5, x5, 24
+    .word 0x00d14303  # lbu x6, 13(x2)
+    .word 0x01031313  # slli x6, x6, 16
+    .word 0x0062e433  # or x8, x5, x6
+    .word 0x00e14303  # lbu x6, 14(x2)
+    .word 0x00831313  # slli x6, x6, 8
+    .word 0x006462b3  # or x5, x8, x6
+    .word 0x00f14303  # lbu x6, 15(x2)
     .word 0x0062e6b3  # or x13, x5, x6
-    .word 0x00871293  # slli x5, x14, 8
-    .word 0x0204c303  # lbu x6, 32(x9)
-    .word 0x0104c383  # lbu x7, 16(x9)
+    .word 0x00000713  # addi x14, x0, 0
+    .word 0x02014283  # lbu x5, 32(x2)
+    .word 0x01014303  # lbu x6, 16(x2)
+    .word 0x0062c2b3  # xor x5, x5, x6
+    .word 0x01829293  # slli x5, x5, 24
+    .word 0x02114303  # lbu x6, 33(x2)
+    .word 0x01114383  # lbu x7, 17(x2)
     .word 0x00734333  # xor x6, x6, x7
-    .word 0x0062e733  # or x14, x5, x6
-    .word 0x00879293  # slli x5, x15, 8
-    .word 0x0244c303  # lbu x6, 36(x9)
-    .word 0x0144c383  # lbu x7, 20(x9)
+    .word 0x01031313  # slli x6, x6, 16
+    .word 0x0062e433  # or x8, x5, x6
+    .word 0x02214303  # lbu x6, 34(x2)
+    .word 0x01214383  # lbu x7, 18(x2)
+    .word 0x00734333  # xor x6, x6, x7
+    .word 0x00831313  # slli x6, x6, 8
+    .word 0x006462b3  # or x5, x8, x6
+    .word 0x02314303  # lbu x6, 35(x2)
+    .word 0x01314383  # lbu x7, 19(x2)
     .word 0x00734333  # xor x6, x6, x7
     .word 0x0062e7b3  # or x15, x5, x6
-    .word 0x00881293  # slli x5, x16, 8
-    .word 0x0284c303  # lbu x6, 40(x9)
-    .word 0x0184c383  # lbu x7, 24(x9)
+    .word 0x02414283  # lbu x5, 36(x2)
+    .word 0x01414303  # lbu x6, 20(x2)
+    .word 0x0062c2b3  # xor x5, x5, x6
+    .word 0x01829293  # slli x5, x5, 24
+    .word 0x02514303  # lbu x6, 37(x2)
+    .word 0x01514383  # lbu x7, 21(x2)
+    .word 0x00734333  # xor x6, x6, x7
+    .word 0x01031313  # slli x6, x6, 16
+    .word 0x0062e433  # or x8, x5, x6
+    .word 0x02614303  # lbu x6, 38(x2)
+    .word 0x01614383  # lbu x7, 22(x2)
+    .word 0x00734333  # xor x6, x6, x7
+    .word 0x00831313  # slli x6, x6, 8
+    .word 0x006462b3  # or x5, x8, x6
+    .word 0x02714303  # lbu x6, 39(x2)
+    .word 0x01714383  # lbu x7, 23(x2)
     .word 0x00734333  # xor x6, x6, x7
     .word 0x0062e833  # or x16, x5, x6
-    .word 0x00889293  # slli x5, x17, 8
-    .word 0x02c4c303  # lbu x6, 44(x9)
-    .word 0x01c4c383  # lbu x7, 28(x9)
+    .word 0x02814283  # lbu x5, 40(x2)
+    .word 0x01814303  # lbu x6, 24(x2)
+    .word 0x0062c2b3  # xor x5, x5, x6
+    .word 0x01829293  # slli x5, x5, 24
+    .word 0x02914303  # lbu x6, 41(x2)
+    .word 0x01914383  # lbu x7, 25(x2)
+    .word 0x00734333  # xor x6, x6, x7
+    .word 0x01031313  # slli x6, x6, 16
+    .word 0x0062e433  # or x8, x5, x6
+    .word 0x02a14303  # lbu x6, 42(x2)
+    .word 0x01a14383  # lbu x7, 26(x2)
+    .word 0x00734333  # xor x6, x6, x7
+    .word 0x00831313  # slli x6, x6, 8
+    .word 0x006462b3  # or x5, x8, x6
+    .word 0x02b14303  # lbu x6, 43(x2)
+    .word 0x01b14383  # lbu x7, 27(x2)
     .word 0x00734333  # xor x6, x6, x7
     .word 0x0062e8b3  # or x17, x5, x6
-    .word 0xffd90293  # addi x5, x18, -3
-    .word 0xf6029ae3  # bne x5, x0, -140
+    .word 0x02c14283  # lbu x5, 44(x2)
+    .word 0x01c14303  # lbu x6, 28(x2)
+    .word 0x0062c2b3  # xor x5, x5, x6
+    .word 0x01829293  # slli x5, x5, 24
+    .word 0x02d14303  # lbu x6, 45(x2)
+    .word 0x01d14383  # lbu x7, 29(x2)
+    .word 0x00734333  # xor x6, x6, x7
+    .word 0x01031313  # slli x6, x6, 16
+    .word 0x0062e433  # or x8, x5, x6
+    .word 0x02e14303  # lbu x6, 46(x2)
+    .word 0x01e14383  # lbu x7, 30(x2)
+    .word 0x00734333  # xor x6, x6, x7
+    .word 0x00831313  # slli x6, x6, 8
+    .word 0x006462b3  # or x5, x8, x6
+    .word 0x02f14303  # lbu x6, 47(x2)
+    .word 0x01f14383  # lbu x7, 31(x2)
+    .word 0x00734333  # xor x6, x6, x7
+    .word 0x0062e933  # or x18, x5, x6
     .word 0x00000993  # addi x19, x0, 0
     .word 0x00000a13  # addi x20, x0, 0
     .word 0x00000a93  # addi x21, x0, 0
@@ -113,84 +179,71 @@ ghash_block:
     .word 0x00000c13  # addi x24, x0, 0
     .word 0x00000c93  # addi x25, x0, 0
     .word 0x00000d13  # addi x26, x0, 0
-    .word 0x02012c23  # sw x0, 56(x2)
-    .word 0x02000293  # addi x5, x0, 32
-    .word 0x02512e23  # sw x5, 60(x2)
-    .word 0x03812303  # lw x6, 56(x2)
-    .word 0x03c12283  # lw x5, 60(x2)
-    .word 0x005332b3  # sltu x5, x6, x5
-    .word 0x00029463  # bne x5, x0, 8
-    .word 0x11c0006f  # jal x0, 284
-    .word 0x02612823  # sw x6, 48(x2)
-    .word 0x00130313  # addi x6, x6, 1
-    .word 0x02612c23  # sw x6, 56(x2)
-    .word 0x001d5293  # srli x5, x26, 1
-    .word 0x01fc9313  # slli x6, x25, 31
-    .word 0x0062ed33  # or x26, x5, x6
-    .word 0x001cd293  # srli x5, x25, 1
-    .word 0x01fc1313  # slli x6, x24, 31
-    .word 0x0062ecb3  # or x25, x5, x6
-    .word 0x001c5293  # srli x5, x24, 1
-    .word 0x01fb9313  # slli x6, x23, 31
-    .word 0x0062ec33  # or x24, x5, x6
-    .word 0x001bd293  # srli x5, x23, 1
-    .word 0x01fb1313  # slli x6, x22, 31
-    .word 0x0062ebb3  # or x23, x5, x6
-    .word 0x001b5293  # srli x5, x22, 1
-    .word 0x01fa9313  # slli x6, x21, 31
-    .word 0x0062eb33  # or x22, x5, x6
-    .word 0x001ad293  # srli x5, x21, 1
-    .word 0x01fa1313  # slli x6, x20, 31
-    .word 0x0062eab3  # or x21, x5, x6
-    .word 0x001a5293  # srli x5, x20, 1
-    .word 0x01f99313  # slli x6, x19, 31
-    .word 0x0062ea33  # or x20, x5, x6
-    .word 0x0019d993  # srli x19, x19, 1
-    .word 0x00177293  # andi x5, x14, 1
-    .word 0x40500db3  # sub x27, x0, x5
-    .word 0x00175713  # srli x14, x14, 1
-    .word 0x01b57333  # and x6, x10, x27
+    .word 0xfff00d93  # addi x27, x0, -1
+    .word 0x001d8d93  # addi x27, x27, 1
+    .word 0x41f7d413  # srai x8, x15, 31
+    .word 0x00179793  # slli x15, x15, 1
+    .word 0x00857333  # and x6, x10, x8
     .word 0x0069c9b3  # xor x19, x19, x6
-    .word 0x01b5f333  # and x6, x11, x27
+    .word 0x0085f333  # and x6, x11, x8
     .word 0x006a4a33  # xor x20, x20, x6
-    .word 0x01b67333  # and x6, x12, x27
+    .word 0x00867333  # and x6, x12, x8
     .word 0x006acab3  # xor x21, x21, x6
-    .word 0x01b6f333  # and x6, x13, x27
+    .word 0x0086f333  # and x6, x13, x8
     .word 0x006b4b33  # xor x22, x22, x6
-    .word 0x0017f293  # andi x5, x15, 1
-    .word 0x40500db3  # sub x27, x0, x5
-    .word 0x0017d793  # srli x15, x15, 1
-    .word 0x01b57333  # and x6, x10, x27
+    .word 0x00877333  # and x6, x14, x8
+    .word 0x006bcbb3  # xor x23, x23, x6
+    .word 0x41f85413  # srai x8, x16, 31
+    .word 0x00181813  # slli x16, x16, 1
+    .word 0x00857333  # and x6, x10, x8
     .word 0x006a4a33  # xor x20, x20, x6
-    .word 0x01b5f333  # and x6, x11, x27
+    .word 0x0085f333  # and x6, x11, x8
     .word 0x006acab3  # xor x21, x21, x6
-    .word 0x01b67333  # and x6, x12, x27
+    .word 0x00867333  # and x6, x12, x8
     .word 0x006b4b33  # xor x22, x22, x6
-    .word 0x01b6f333  # and x6, x13, x27
+    .word 0x0086f333  # and x6, x13, x8
     .word 0x006bcbb3  # xor x23, x23, x6
-    .word 0x00187293  # andi x5, x16, 1
-    .word 0x40500db3  # sub x27, x0, x5
-    .word 0x00185813  # srli x16, x16, 1
-    .word 0x01b57333  # and x6, x10, x27
+    .word 0x00877333  # and x6, x14, x8
+    .word 0x006c4c33  # xor x24, x24, x6
+    .word 0x41f8d413  # srai x8, x17, 31
+    .word 0x00189893  # slli x17, x17, 1
+    .word 0x00857333  # and x6, x10, x8
     .word 0x006acab3  # xor x21, x21, x6
-    .word 0x01b5f333  # and x6, x11, x27
+    .word 0x0085f333  # and x6, x11, x8
     .word 0x006b4b33  # xor x22, x22, x6
-    .word 0x01b67333  # and x6, x12, x27
+    .word 0x00867333  # and x6, x12, x8
     .word 0x006bcbb3  # xor x23, x23, x6
-    .word 0x01b6f333  # and x6, x13, x27
+    .word 0x0086f333  # and x6, x13, x8
     .word 0x006c4c33  # xor x24, x24, x6
-    .word 0x0018f293  # andi x5, x17, 1
-    .word 0x40500db3  # sub x27, x0, x5
-    .word 0x0018d893  # srli x17, x17, 1
-    .word 0x01b57333  # and x6, x10, x27
-    .word 0x006b4b33  # xor x22, x22, x6
-    .word 0x01b5f333  # and x6, x11, x27
-    .word 0x006bcbb3  # xor x23, x23, x6
-    .word 0x01b67333  # and x6, x12, x27
-    .word 0x006c4c33  # xor x24, x24, x6
-    .word 0x01b6f333  # and x6, x13, x27
+    .word 0x00877333  # and x6, x14, x8
     .word 0x006cccb3  # xor x25, x25, x6
-    .word 0xed9ff06f  # jal x0, -296
+    .word 0x41f95413  # srai x8, x18, 31
+    .word 0x00191913  # slli x18, x18, 1
+    .word 0x00857333  # and x6, x10, x8
+    .word 0x006b4b33  # xor x22, x22, x6
+    .word 0x0085f333  # and x6, x11, x8
+    .word 0x006bcbb3  # xor x23, x23, x6
+    .word 0x00867333  # and x6, x12, x8
+    .word 0x006c4c33  # xor x24, x24, x6
+    .word 0x0086f333  # and x6, x13, x8
+    .word 0x006cccb3  # xor x25, x25, x6
+    .word 0x00877333  # and x6, x14, x8
+    .word 0x006d4d33  # xor x26, x26, x6
+    .word 0x00175293  # srli x5, x14, 1
+    .word 0x01f69313  # slli x6, x13, 31
+    .word 0x0062e733  # or x14, x5, x6
+    .word 0x0016d293  # srli x5, x13, 1
+    .word 0x01f61313  # slli x6, x12, 31
+    .word 0x0062e6b3  # or x13, x5, x6
+    .word 0x00165293  # srli x5, x12, 1
+    .word 0x01f59313  # slli x6, x11, 31
+    .word 0x0062e633  # or x12, x5, x6
+    .word 0x0015d293  # srli x5, x11, 1
+    .word 0x01f51313  # slli x6, x10, 31
+    .word 0x0062e5b3  # or x11, x5, x6
+    .word 0x00155513  # srli x10, x10, 1
+    .word 0xfe1d8293  # addi x5, x27, -31
+    .word 0xf00292e3  # bne x5, x0, -252
     .word 0x01ab42b3  # xor x5, x22, x26
     .word 0x001d5313  # srli x6, x26, 1
     .word 0x0062c2b3  # xor x5, x5, x6
@@ -281,8 +334,8 @@ ghash_block:
     # above the frame
     .word 0x04010293  # addi x5, x2, 64
     # the caller's registers
-    .word 0x0002a483  # lw x9, 0(x5)
-    .cfi_restore 9
+    .word 0x0002a403  # lw x8, 0(x5)
+    .cfi_restore 8
     .word 0x0042a903  # lw x18, 4(x5)
     .cfi_restore 18
     .word 0x0082a983  # lw x19, 8(x5)
@@ -333,7 +386,7 @@ ghash_block:
     .word 0x00008067  # jalr x0, 0(x1)
     # from x5 to x6 up to x7, and back
     .cfi_def_cfa 2, 128
-    .cfi_offset 9, -64
+    .cfi_offset 8, -64
     .cfi_offset 18, -60
     .cfi_offset 19, -56
     .cfi_offset 20, -52

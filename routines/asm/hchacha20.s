@@ -1,4 +1,4 @@
-# hchacha20: made by factc 1.0.0 function; 321 words, 144 bytes of stack, profile 1
+# hchacha20: made by factc 1.0.0 function; 272 words, 144 bytes of stack, profile 1
     .option push
     .option norvc
     .option norelax
@@ -42,14 +42,13 @@ hchacha20:
     .word 0x00050293  # addi x5, x10, 0
     .word 0x00010313  # addi x6, x2, 0
     .word 0x02028393  # addi x7, x5, 32
-    .word 0x46c00f6f  # jal x30, 1132
+    .word 0x3a800f6f  # jal x30, 936
     # parameter 1: an array
     .word 0x00058293  # addi x5, x11, 0
     .word 0x02010313  # addi x6, x2, 32
     .word 0x01028393  # addi x7, x5, 16
-    .word 0x45c00f6f  # jal x30, 1116
+    .word 0x39800f6f  # jal x30, 920
     # the body
-    .word 0x00000d13  # addi x26, x0, 0
     .word 0x61708537  # lui x10, 0x61708
     .word 0x86550513  # addi x10, x10, -1947
     .word 0x332065b7  # lui x11, 0x33206
@@ -234,62 +233,14 @@ hchacha20:
     .word 0x00ef0733  # add x14, x30, x14
     .word 0xff7d0293  # addi x5, x26, -9
     .word 0xd6029ce3  # bne x5, x0, -648
-    .word 0x02a10823  # sb x10, 48(x2)
-    .word 0x00855293  # srli x5, x10, 8
-    .word 0x025108a3  # sb x5, 49(x2)
-    .word 0x01055293  # srli x5, x10, 16
-    .word 0x02510923  # sb x5, 50(x2)
-    .word 0x01855293  # srli x5, x10, 24
-    .word 0x025109a3  # sb x5, 51(x2)
-    .word 0x02b10a23  # sb x11, 52(x2)
-    .word 0x0085d293  # srli x5, x11, 8
-    .word 0x02510aa3  # sb x5, 53(x2)
-    .word 0x0105d293  # srli x5, x11, 16
-    .word 0x02510b23  # sb x5, 54(x2)
-    .word 0x0185d293  # srli x5, x11, 24
-    .word 0x02510ba3  # sb x5, 55(x2)
-    .word 0x02c10c23  # sb x12, 56(x2)
-    .word 0x00865293  # srli x5, x12, 8
-    .word 0x02510ca3  # sb x5, 57(x2)
-    .word 0x01065293  # srli x5, x12, 16
-    .word 0x02510d23  # sb x5, 58(x2)
-    .word 0x01865293  # srli x5, x12, 24
-    .word 0x02510da3  # sb x5, 59(x2)
-    .word 0x02d10e23  # sb x13, 60(x2)
-    .word 0x0086d293  # srli x5, x13, 8
-    .word 0x02510ea3  # sb x5, 61(x2)
-    .word 0x0106d293  # srli x5, x13, 16
-    .word 0x02510f23  # sb x5, 62(x2)
-    .word 0x0186d293  # srli x5, x13, 24
-    .word 0x02510fa3  # sb x5, 63(x2)
-    .word 0x05610023  # sb x22, 64(x2)
-    .word 0x008b5293  # srli x5, x22, 8
-    .word 0x045100a3  # sb x5, 65(x2)
-    .word 0x010b5293  # srli x5, x22, 16
-    .word 0x04510123  # sb x5, 66(x2)
-    .word 0x018b5293  # srli x5, x22, 24
-    .word 0x045101a3  # sb x5, 67(x2)
-    .word 0x05710223  # sb x23, 68(x2)
-    .word 0x008bd293  # srli x5, x23, 8
-    .word 0x045102a3  # sb x5, 69(x2)
-    .word 0x010bd293  # srli x5, x23, 16
-    .word 0x04510323  # sb x5, 70(x2)
-    .word 0x018bd293  # srli x5, x23, 24
-    .word 0x045103a3  # sb x5, 71(x2)
-    .word 0x05810423  # sb x24, 72(x2)
-    .word 0x008c5293  # srli x5, x24, 8
-    .word 0x045104a3  # sb x5, 73(x2)
-    .word 0x010c5293  # srli x5, x24, 16
-    .word 0x04510523  # sb x5, 74(x2)
-    .word 0x018c5293  # srli x5, x24, 24
-    .word 0x045105a3  # sb x5, 75(x2)
-    .word 0x05910623  # sb x25, 76(x2)
-    .word 0x008cd293  # srli x5, x25, 8
-    .word 0x045106a3  # sb x5, 77(x2)
-    .word 0x010cd293  # srli x5, x25, 16
-    .word 0x04510723  # sb x5, 78(x2)
-    .word 0x018cd293  # srli x5, x25, 24
-    .word 0x045107a3  # sb x5, 79(x2)
+    .word 0x02a12823  # sw x10, 48(x2)
+    .word 0x02b12a23  # sw x11, 52(x2)
+    .word 0x02c12c23  # sw x12, 56(x2)
+    .word 0x02d12e23  # sw x13, 60(x2)
+    .word 0x05612023  # sw x22, 64(x2)
+    .word 0x05712223  # sw x23, 68(x2)
+    .word 0x05812423  # sw x24, 72(x2)
+    .word 0x05912623  # sw x25, 76(x2)
     # the result
     .word 0x00000513  # addi x10, x0, 0
     # parameter 2: the array, back

@@ -1,4 +1,4 @@
-# hex_decode: made by factc 1.0.0 function; 102 words, 128 bytes of stack, profile 1
+# hex_decode: made by factc 1.0.0 function; 100 words, 128 bytes of stack, profile 1
     .option push
     .option norvc
     .option norelax
@@ -25,15 +25,13 @@ hex_decode:
     .word 0x00050293  # addi x5, x10, 0
     .word 0x00010313  # addi x6, x2, 0
     .word 0x04028393  # addi x7, x5, 64
-    .word 0x12400f6f  # jal x30, 292
+    .word 0x11c00f6f  # jal x30, 284
     # parameter 1: an array
     .word 0x00058293  # addi x5, x11, 0
     .word 0x04010313  # addi x6, x2, 64
     .word 0x02028393  # addi x7, x5, 32
-    .word 0x11400f6f  # jal x30, 276
+    .word 0x10c00f6f  # jal x30, 268
     # the body
-    .word 0x00000613  # addi x12, x0, 0
-    .word 0x002608b3  # add x17, x12, x2
     .word 0x00100513  # addi x10, x0, 1
     .word 0x00000593  # addi x11, x0, 0
     .word 0xfff00613  # addi x12, x0, -1

@@ -1,4 +1,4 @@
-# hex_encode: made by factc 1.0.0 function; 116 words, 144 bytes of stack, profile 1
+# hex_encode: made by factc 1.0.0 function; 115 words, 144 bytes of stack, profile 1
     .option push
     .option norvc
     .option norelax
@@ -33,14 +33,13 @@ hex_encode:
     .word 0x00050293  # addi x5, x10, 0
     .word 0x00010313  # addi x6, x2, 0
     .word 0x02028393  # addi x7, x5, 32
-    .word 0x14c00f6f  # jal x30, 332
+    .word 0x14800f6f  # jal x30, 328
     # parameter 1: an array
     .word 0x00058293  # addi x5, x11, 0
     .word 0x02010313  # addi x6, x2, 32
     .word 0x04028393  # addi x7, x5, 64
-    .word 0x13c00f6f  # jal x30, 316
+    .word 0x13800f6f  # jal x30, 312
     # the body
-    .word 0x00000513  # addi x10, x0, 0
     .word 0x000f07b7  # lui x15, 0x000f0
     .word 0x00f78793  # addi x15, x15, 15
     .word 0x0f001837  # lui x16, 0x0f001

@@ -1,4 +1,4 @@
-# hotp_digits: made by factc 1.0.0 function; 113 words, 32 bytes of stack, profile 1
+# hotp_digits: made by factc 1.0.0 function; 112 words, 32 bytes of stack, profile 1
     .option push
     .option norvc
     .option norelax
@@ -20,9 +20,8 @@ hotp_digits:
     .word 0x00050293  # addi x5, x10, 0
     .word 0x00010313  # addi x6, x2, 0
     .word 0x01428393  # addi x7, x5, 20
-    .word 0x17800f6f  # jal x30, 376
+    .word 0x17400f6f  # jal x30, 372
     # the body
-    .word 0x00000693  # addi x13, x0, 0
     .word 0x01314283  # lbu x5, 19(x2)
     .word 0x00f2f513  # andi x10, x5, 15
     .word 0x00014283  # lbu x5, 0(x2)

@@ -1,4 +1,4 @@
-# is_zero_32: made by factc 1.0.0 function; 68 words, 48 bytes of stack, profile 1
+# is_zero_32: made by factc 1.0.0 function; 67 words, 48 bytes of stack, profile 1
     .option push
     .option norvc
     .option norelax
@@ -20,9 +20,8 @@ is_zero_32:
     .word 0x00050293  # addi x5, x10, 0
     .word 0x00010313  # addi x6, x2, 0
     .word 0x02028393  # addi x7, x5, 32
-    .word 0x0ac00f6f  # jal x30, 172
+    .word 0x0a800f6f  # jal x30, 168
     # the body
-    .word 0x00000593  # addi x11, x0, 0
     .word 0x00000513  # addi x10, x0, 0
     .word 0xfff00593  # addi x11, x0, -1
     .word 0x00158593  # addi x11, x11, 1

@@ -1,4 +1,4 @@
-# less_32: made by factc 1.0.0 function; 107 words, 80 bytes of stack, profile 1
+# less_32: made by factc 1.0.0 function; 106 words, 80 bytes of stack, profile 1
     .option push
     .option norvc
     .option norelax
@@ -20,14 +20,13 @@ less_32:
     .word 0x00050293  # addi x5, x10, 0
     .word 0x00010313  # addi x6, x2, 0
     .word 0x02028393  # addi x7, x5, 32
-    .word 0x14800f6f  # jal x30, 328
+    .word 0x14400f6f  # jal x30, 324
     # parameter 1: an array
     .word 0x00058293  # addi x5, x11, 0
     .word 0x02010313  # addi x6, x2, 32
     .word 0x02028393  # addi x7, x5, 32
-    .word 0x13800f6f  # jal x30, 312
+    .word 0x13400f6f  # jal x30, 308
     # the body
-    .word 0x00000613  # addi x12, x0, 0
     .word 0x00000513  # addi x10, x0, 0
     .word 0xfff00613  # addi x12, x0, -1
     .word 0x00160613  # addi x12, x12, 1

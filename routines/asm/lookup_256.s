@@ -1,4 +1,4 @@
-# lookup_256: made by factc 1.0.0 function; 77 words, 272 bytes of stack, profile 1
+# lookup_256: made by factc 1.0.0 function; 76 words, 272 bytes of stack, profile 1
     .option push
     .option norvc
     .option norelax
@@ -23,10 +23,9 @@ lookup_256:
     .word 0x00058293  # addi x5, x11, 0
     .word 0x00410313  # addi x6, x2, 4
     .word 0x10028393  # addi x7, x5, 256
-    .word 0x0c800f6f  # jal x30, 200
+    .word 0x0c400f6f  # jal x30, 196
     # the body
     .word 0x00012503  # lw x10, 0(x2)
-    .word 0x00000693  # addi x13, x0, 0
     .word 0x00050593  # addi x11, x10, 0
     .word 0x00000613  # addi x12, x0, 0
     .word 0xfff00693  # addi x13, x0, -1

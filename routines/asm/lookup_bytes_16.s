@@ -1,4 +1,4 @@
-# lookup_bytes_16: made by factc 1.0.0 function; 165 words, 304 bytes of stack, profile 1
+# lookup_bytes_16: made by factc 1.0.0 function; 164 words, 304 bytes of stack, profile 1
     .option push
     .option norvc
     .option norelax
@@ -27,15 +27,14 @@ lookup_bytes_16:
     .word 0x00058293  # addi x5, x11, 0
     .word 0x00410313  # addi x6, x2, 4
     .word 0x10028393  # addi x7, x5, 256
-    .word 0x21800f6f  # jal x30, 536
+    .word 0x21400f6f  # jal x30, 532
     # parameter 2: an array
     .word 0x00060293  # addi x5, x12, 0
     .word 0x10410313  # addi x6, x2, 260
     .word 0x01028393  # addi x7, x5, 16
-    .word 0x20800f6f  # jal x30, 520
+    .word 0x20400f6f  # jal x30, 516
     # the body
     .word 0x00012503  # lw x10, 0(x2)
-    .word 0x00000693  # addi x13, x0, 0
     .word 0xfff00693  # addi x13, x0, -1
     .word 0x00168693  # addi x13, x13, 1
     .word 0x00269593  # slli x11, x13, 2

@@ -1,4 +1,4 @@
-# lookup_bytes_32: made by factc 1.0.0 function; 169 words, 576 bytes of stack, profile 1
+# lookup_bytes_32: made by factc 1.0.0 function; 168 words, 576 bytes of stack, profile 1
     .option push
     .option norvc
     .option norelax
@@ -27,15 +27,14 @@ lookup_bytes_32:
     .word 0x00058293  # addi x5, x11, 0
     .word 0x00410313  # addi x6, x2, 4
     .word 0x20028393  # addi x7, x5, 512
-    .word 0x22800f6f  # jal x30, 552
+    .word 0x22400f6f  # jal x30, 548
     # parameter 2: an array
     .word 0x00060293  # addi x5, x12, 0
     .word 0x20410313  # addi x6, x2, 516
     .word 0x02028393  # addi x7, x5, 32
-    .word 0x21800f6f  # jal x30, 536
+    .word 0x21400f6f  # jal x30, 532
     # the body
     .word 0x00012503  # lw x10, 0(x2)
-    .word 0x00000593  # addi x11, x0, 0
     .word 0xfff00593  # addi x11, x0, -1
     .word 0x00158593  # addi x11, x11, 1
     .word 0x00259693  # slli x13, x11, 2

@@ -1,4 +1,4 @@
-# lookup_words_256: made by factc 1.0.0 function; 68 words, 1040 bytes of stack, profile 1
+# lookup_words_256: made by factc 1.0.0 function; 67 words, 1040 bytes of stack, profile 1
     .option push
     .option norvc
     .option norelax
@@ -23,10 +23,9 @@ lookup_words_256:
     .word 0x00058293  # addi x5, x11, 0
     .word 0x00410313  # addi x6, x2, 4
     .word 0x40028393  # addi x7, x5, 1024
-    .word 0x0a400f6f  # jal x30, 164
+    .word 0x0a000f6f  # jal x30, 160
     # the body
     .word 0x00012503  # lw x10, 0(x2)
-    .word 0x00000613  # addi x12, x0, 0
     .word 0x00000593  # addi x11, x0, 0
     .word 0xfff00613  # addi x12, x0, -1
     .word 0x00160613  # addi x12, x12, 1

@@ -1,4 +1,4 @@
-# minimum_maximum_16: made by factc 1.0.0 function; 115 words, 112 bytes of stack, profile 1
+# minimum_maximum_16: made by factc 1.0.0 function; 114 words, 112 bytes of stack, profile 1
     .option push
     .option norvc
     .option norelax
@@ -23,9 +23,8 @@ minimum_maximum_16:
     .word 0x00050293  # addi x5, x10, 0
     .word 0x00010313  # addi x6, x2, 0
     .word 0x04028393  # addi x7, x5, 64
-    .word 0x15c00f6f  # jal x30, 348
+    .word 0x15800f6f  # jal x30, 344
     # the body
-    .word 0x00000613  # addi x12, x0, 0
     .word 0x00012503  # lw x10, 0(x2)
     .word 0x00050593  # addi x11, x10, 0
     .word 0xfff00613  # addi x12, x0, -1

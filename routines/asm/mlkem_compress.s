@@ -1,4 +1,4 @@
-# mlkem_compress: made by factc 1.0.0 function; 101 words, 544 bytes of stack, profile 1
+# mlkem_compress: made by factc 1.0.0 function; 100 words, 544 bytes of stack, profile 1
     .option push
     .option norvc
     .option norelax
@@ -22,12 +22,11 @@ mlkem_compress:
     .word 0x00050293  # addi x5, x10, 0
     .word 0x00010313  # addi x6, x2, 0
     .word 0x20028393  # addi x7, x5, 512
-    .word 0x12800f6f  # jal x30, 296
+    .word 0x12400f6f  # jal x30, 292
     # parameter 1: a word
     .word 0x20b12023  # sw x11, 512(x2)
     # the body
     .word 0x20012503  # lw x10, 512(x2)
-    .word 0x00000693  # addi x13, x0, 0
     .word 0x9d7dc837  # lui x16, 0x9d7dc
     .word 0xb4180813  # addi x16, x16, -1215
     .word 0x00c00313  # addi x6, x0, 12

@@ -1,4 +1,4 @@
-# mlkem_decode_12: made by factc 1.0.0 function; 118 words, 944 bytes of stack, profile 1
+# mlkem_decode_12: made by factc 1.0.0 function; 117 words, 944 bytes of stack, profile 1
     .option push
     .option norvc
     .option norelax
@@ -29,14 +29,13 @@ mlkem_decode_12:
     .word 0x00050293  # addi x5, x10, 0
     .word 0x00010313  # addi x6, x2, 0
     .word 0x18028393  # addi x7, x5, 384
-    .word 0x15c00f6f  # jal x30, 348
+    .word 0x15800f6f  # jal x30, 344
     # parameter 1: an array
     .word 0x00058293  # addi x5, x11, 0
     .word 0x18010313  # addi x6, x2, 384
     .word 0x20028393  # addi x7, x5, 512
-    .word 0x14c00f6f  # jal x30, 332
+    .word 0x14800f6f  # jal x30, 328
     # the body
-    .word 0x00000513  # addi x10, x0, 0
     .word 0x00001937  # lui x18, 0x00001
     .word 0xd0190913  # addi x18, x18, -767
     .word 0xfff00513  # addi x10, x0, -1

@@ -1,4 +1,4 @@
-# mlkem_decompress: made by factc 1.0.0 function; 93 words, 544 bytes of stack, profile 1
+# mlkem_decompress: made by factc 1.0.0 function; 92 words, 544 bytes of stack, profile 1
     .option push
     .option norvc
     .option norelax
@@ -22,12 +22,11 @@ mlkem_decompress:
     .word 0x00050293  # addi x5, x10, 0
     .word 0x00010313  # addi x6, x2, 0
     .word 0x20028393  # addi x7, x5, 512
-    .word 0x10800f6f  # jal x30, 264
+    .word 0x10400f6f  # jal x30, 260
     # parameter 1: a word
     .word 0x20b12023  # sw x11, 512(x2)
     # the body
     .word 0x20012503  # lw x10, 512(x2)
-    .word 0x00000713  # addi x14, x0, 0
     .word 0x00c00313  # addi x6, x0, 12
     .word 0x026575b3  # remu x11, x10, x6
     .word 0x00100293  # addi x5, x0, 1

@@ -1,4 +1,4 @@
-# mlkem_encode_12: made by factc 1.0.0 function; 94 words, 928 bytes of stack, profile 1
+# mlkem_encode_12: made by factc 1.0.0 function; 93 words, 928 bytes of stack, profile 1
     .option push
     .option norvc
     .option norelax
@@ -25,14 +25,13 @@ mlkem_encode_12:
     .word 0x00050293  # addi x5, x10, 0
     .word 0x00010313  # addi x6, x2, 0
     .word 0x20028393  # addi x7, x5, 512
-    .word 0x10400f6f  # jal x30, 260
+    .word 0x10000f6f  # jal x30, 256
     # parameter 1: an array
     .word 0x00058293  # addi x5, x11, 0
     .word 0x20010313  # addi x6, x2, 512
     .word 0x18028393  # addi x7, x5, 384
-    .word 0x0f400f6f  # jal x30, 244
+    .word 0x0f000f6f  # jal x30, 240
     # the body
-    .word 0x00000513  # addi x10, x0, 0
     .word 0xfff00513  # addi x10, x0, -1
     .word 0x00150513  # addi x10, x10, 1
     .word 0x00251593  # slli x11, x10, 2

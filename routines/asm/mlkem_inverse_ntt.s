@@ -1,4 +1,4 @@
-# mlkem_inverse_ntt: made by factc 1.0.0 function; 984 words, 1136 bytes of stack, profile 1
+# mlkem_inverse_ntt: made by factc 1.0.0 function; 982 words, 1136 bytes of stack, profile 1
     .option push
     .option norvc
     .option norelax
@@ -46,10 +46,8 @@ mlkem_inverse_ntt:
     .word 0x00050293  # addi x5, x10, 0
     .word 0x00010313  # addi x6, x2, 0
     .word 0x20028393  # addi x7, x5, 512
-    .word 0x6c500f6f  # jal x30, 3780
+    .word 0x6bd00f6f  # jal x30, 3772
     # the body
-    .word 0x00000513  # addi x10, x0, 0
-    .word 0x00000813  # addi x16, x0, 0
     .word 0x00007db7  # lui x27, 0x00007
     .word 0x808d8d93  # addi x27, x27, -2040
     .word 0x00001437  # lui x8, 0x00001

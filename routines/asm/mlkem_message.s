@@ -1,4 +1,4 @@
-# mlkem_message: made by factc 1.0.0 function; 110 words, 576 bytes of stack, profile 1
+# mlkem_message: made by factc 1.0.0 function; 109 words, 576 bytes of stack, profile 1
     .option push
     .option norvc
     .option norelax
@@ -23,14 +23,13 @@ mlkem_message:
     .word 0x00050293  # addi x5, x10, 0
     .word 0x00010313  # addi x6, x2, 0
     .word 0x02028393  # addi x7, x5, 32
-    .word 0x14800f6f  # jal x30, 328
+    .word 0x14400f6f  # jal x30, 324
     # parameter 1: an array
     .word 0x00058293  # addi x5, x11, 0
     .word 0x02010313  # addi x6, x2, 32
     .word 0x20028393  # addi x7, x5, 512
-    .word 0x13800f6f  # jal x30, 312
+    .word 0x13400f6f  # jal x30, 308
     # the body
-    .word 0x00000513  # addi x10, x0, 0
     .word 0xfff00513  # addi x10, x0, -1
     .word 0x00150513  # addi x10, x10, 1
     .word 0x00351593  # slli x11, x10, 3

@@ -1,4 +1,4 @@
-# mlkem_multiply_ntts: made by factc 1.0.0 function; 303 words, 1840 bytes of stack, profile 1
+# mlkem_multiply_ntts: made by factc 1.0.0 function; 300 words, 1840 bytes of stack, profile 1
     .option push
     .option norvc
     .option norelax
@@ -32,21 +32,18 @@ mlkem_multiply_ntts:
     .word 0x00050293  # addi x5, x10, 0
     .word 0x00010313  # addi x6, x2, 0
     .word 0x20028393  # addi x7, x5, 512
-    .word 0x43800f6f  # jal x30, 1080
+    .word 0x42c00f6f  # jal x30, 1068
     # parameter 1: an array
     .word 0x00058293  # addi x5, x11, 0
     .word 0x20010313  # addi x6, x2, 512
     .word 0x20028393  # addi x7, x5, 512
-    .word 0x42800f6f  # jal x30, 1064
+    .word 0x41c00f6f  # jal x30, 1052
     # parameter 2: an array
     .word 0x00060293  # addi x5, x12, 0
     .word 0x40010313  # addi x6, x2, 1024
     .word 0x20028393  # addi x7, x5, 512
-    .word 0x41800f6f  # jal x30, 1048
+    .word 0x40c00f6f  # jal x30, 1036
     # the body
-    .word 0x00000513  # addi x10, x0, 0
-    .word 0x00251a13  # slli x20, x10, 2
-    .word 0x002a0a33  # add x20, x20, x2
     .word 0x9d7dc937  # lui x18, 0x9d7dc
     .word 0xb4190913  # addi x18, x18, -1215
     .word 0x000019b7  # lui x19, 0x00001

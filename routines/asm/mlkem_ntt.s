@@ -1,4 +1,4 @@
-# mlkem_ntt: made by factc 1.0.0 function; 977 words, 1120 bytes of stack, profile 1
+# mlkem_ntt: made by factc 1.0.0 function; 973 words, 1120 bytes of stack, profile 1
     .option push
     .option norvc
     .option norelax
@@ -46,12 +46,8 @@ mlkem_ntt:
     .word 0x00050293  # addi x5, x10, 0
     .word 0x00010313  # addi x6, x2, 0
     .word 0x20028393  # addi x7, x5, 512
-    .word 0x6a900f6f  # jal x30, 3752
+    .word 0x69900f6f  # jal x30, 3736
     # the body
-    .word 0x00000513  # addi x10, x0, 0
-    .word 0x00000c93  # addi x25, x0, 0
-    .word 0x00151413  # slli x8, x10, 1
-    .word 0x00240433  # add x8, x8, x2
     .word 0x0013bd37  # lui x26, 0x0013b
     .word 0xfb8d0d13  # addi x26, x26, -72
     .word 0x00001db7  # lui x27, 0x00001

@@ -1,4 +1,4 @@
-# mlkem_sample_cbd2: made by factc 1.0.0 function; 160 words, 688 bytes of stack, profile 1
+# mlkem_sample_cbd2: made by factc 1.0.0 function; 159 words, 688 bytes of stack, profile 1
     .option push
     .option norvc
     .option norelax
@@ -31,14 +31,13 @@ mlkem_sample_cbd2:
     .word 0x00050293  # addi x5, x10, 0
     .word 0x00010313  # addi x6, x2, 0
     .word 0x08028393  # addi x7, x5, 128
-    .word 0x20000f6f  # jal x30, 512
+    .word 0x1fc00f6f  # jal x30, 508
     # parameter 1: an array
     .word 0x00058293  # addi x5, x11, 0
     .word 0x08010313  # addi x6, x2, 128
     .word 0x20028393  # addi x7, x5, 512
-    .word 0x1f000f6f  # jal x30, 496
+    .word 0x1ec00f6f  # jal x30, 492
     # the body
-    .word 0x00000593  # addi x11, x0, 0
     .word 0x555558b7  # lui x17, 0x55555
     .word 0x55588893  # addi x17, x17, 1365
     .word 0x33333937  # lui x18, 0x33333

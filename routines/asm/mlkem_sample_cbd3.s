@@ -1,4 +1,4 @@
-# mlkem_sample_cbd3: made by factc 1.0.0 function; 134 words, 752 bytes of stack, profile 1
+# mlkem_sample_cbd3: made by factc 1.0.0 function; 133 words, 752 bytes of stack, profile 1
     .option push
     .option norvc
     .option norelax
@@ -31,14 +31,13 @@ mlkem_sample_cbd3:
     .word 0x00050293  # addi x5, x10, 0
     .word 0x00010313  # addi x6, x2, 0
     .word 0x0c028393  # addi x7, x5, 192
-    .word 0x19800f6f  # jal x30, 408
+    .word 0x19400f6f  # jal x30, 404
     # parameter 1: an array
     .word 0x00058293  # addi x5, x11, 0
     .word 0x0c010313  # addi x6, x2, 192
     .word 0x20028393  # addi x7, x5, 512
-    .word 0x18800f6f  # jal x30, 392
+    .word 0x18400f6f  # jal x30, 388
     # the body
-    .word 0x00000613  # addi x12, x0, 0
     .word 0x001c7937  # lui x18, 0x001c7
     .word 0x1c790913  # addi x18, x18, 455
     .word 0x002089b7  # lui x19, 0x00208

@@ -1,4 +1,4 @@
-# mlkem_subtract: made by factc 1.0.0 function; 98 words, 1056 bytes of stack, profile 1
+# mlkem_subtract: made by factc 1.0.0 function; 97 words, 1056 bytes of stack, profile 1
     .option push
     .option norvc
     .option norelax
@@ -22,14 +22,13 @@ mlkem_subtract:
     .word 0x00050293  # addi x5, x10, 0
     .word 0x00010313  # addi x6, x2, 0
     .word 0x20028393  # addi x7, x5, 512
-    .word 0x11c00f6f  # jal x30, 284
+    .word 0x11800f6f  # jal x30, 280
     # parameter 1: an array
     .word 0x00058293  # addi x5, x11, 0
     .word 0x20010313  # addi x6, x2, 512
     .word 0x20028393  # addi x7, x5, 512
-    .word 0x10c00f6f  # jal x30, 268
+    .word 0x10800f6f  # jal x30, 264
     # the body
-    .word 0x00000593  # addi x11, x0, 0
     .word 0x00001537  # lui x10, 0x00001
     .word 0xd0150513  # addi x10, x10, -767
     .word 0xfff00593  # addi x11, x0, -1

@@ -1,4 +1,4 @@
-# modular_power_32: made by factc 1.0.0 function; 105 words, 64 bytes of stack, profile 1
+# modular_power_32: made by factc 1.0.0 function; 101 words, 64 bytes of stack, profile 1
     .option push
     .option norvc
     .option norelax
@@ -35,8 +35,6 @@ modular_power_32:
     .word 0x00012503  # lw x10, 0(x2)
     .word 0x00412583  # lw x11, 4(x2)
     .word 0x00812603  # lw x12, 8(x2)
-    .word 0x00000713  # addi x14, x0, 0
-    .word 0x00000813  # addi x16, x0, 0
     .word 0x01012983  # lw x19, 16(x2)
     .word 0xfff60293  # addi x5, x12, -1
     .word 0x005032b3  # sltu x5, x0, x5
@@ -57,8 +55,7 @@ modular_power_32:
     .word 0xfff38393  # addi x7, x7, -1
     .word 0x00767333  # and x6, x12, x7
     .word 0x406787b3  # sub x15, x15, x6
-    .word 0x01f8d393  # srli x7, x17, 31
-    .word 0x407003b3  # sub x7, x0, x7
+    .word 0x41f8d393  # srai x7, x17, 31
     .word 0x0076f333  # and x6, x13, x7
     .word 0x006787b3  # add x15, x15, x6
     .word 0x00c7b3b3  # sltu x7, x15, x12
@@ -67,7 +64,7 @@ modular_power_32:
     .word 0x406787b3  # sub x15, x15, x6
     .word 0x00189893  # slli x17, x17, 1
     .word 0xfe180293  # addi x5, x16, -31
-    .word 0xfc0290e3  # bne x5, x0, -64
+    .word 0xfc0292e3  # bne x5, x0, -60
     .word 0x00078693  # addi x13, x15, 0
     .word 0x00000893  # addi x17, x0, 0
     .word 0x00050913  # addi x18, x10, 0
@@ -78,8 +75,7 @@ modular_power_32:
     .word 0xfff38393  # addi x7, x7, -1
     .word 0x00767333  # and x6, x12, x7
     .word 0x406888b3  # sub x17, x17, x6
-    .word 0x01f95393  # srli x7, x18, 31
-    .word 0x407003b3  # sub x7, x0, x7
+    .word 0x41f95393  # srai x7, x18, 31
     .word 0x0077f333  # and x6, x15, x7
     .word 0x006888b3  # add x17, x17, x6
     .word 0x00c8b3b3  # sltu x7, x17, x12
@@ -88,7 +84,7 @@ modular_power_32:
     .word 0x406888b3  # sub x17, x17, x6
     .word 0x00191913  # slli x18, x18, 1
     .word 0xfe180293  # addi x5, x16, -31
-    .word 0xfc0290e3  # bne x5, x0, -64
+    .word 0xfc0292e3  # bne x5, x0, -60
     .word 0x01f00313  # addi x6, x0, 31
     .word 0x40e30333  # sub x6, x6, x14
     .word 0x0065d2b3  # srl x5, x11, x6
@@ -100,7 +96,7 @@ modular_power_32:
     .word 0x0132f2b3  # and x5, x5, x19
     .word 0x0056c6b3  # xor x13, x13, x5
     .word 0xfe170293  # addi x5, x14, -31
-    .word 0xf20296e3  # bne x5, x0, -212
+    .word 0xf2029ae3  # bne x5, x0, -204
     .word 0x00d12623  # sw x13, 12(x2)
     # the result
     .word 0x00c12503  # lw x10, 12(x2)

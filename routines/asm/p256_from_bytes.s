@@ -1,4 +1,4 @@
-# p256_from_bytes: made by factc 1.0.0 function; 555 words, 192 bytes of stack, profile 1
+# p256_from_bytes: made by factc 1.0.0 function; 554 words, 192 bytes of stack, profile 1
     .option push
     .option norvc
     .option norelax
@@ -47,9 +47,8 @@ p256_from_bytes:
     .word 0x00050293  # addi x5, x10, 0
     .word 0x00010313  # addi x6, x2, 0
     .word 0x02028393  # addi x7, x5, 32
-    .word 0x00d00f6f  # jal x30, 2060
+    .word 0x00900f6f  # jal x30, 2056
     # the body
-    .word 0x00000613  # addi x12, x0, 0
     .word 0x04000313  # addi x6, x0, 64
     .word 0x00230333  # add x6, x6, x2
     .word 0x02000393  # addi x7, x0, 32

@@ -1,4 +1,4 @@
-# p256_multiply: made by factc 1.0.0 function; 436 words, 224 bytes of stack, profile 1
+# p256_multiply: made by factc 1.0.0 function; 435 words, 224 bytes of stack, profile 1
     .option push
     .option norvc
     .option norelax
@@ -48,14 +48,13 @@ p256_multiply:
     .word 0x00050293  # addi x5, x10, 0
     .word 0x00010313  # addi x6, x2, 0
     .word 0x02028393  # addi x7, x5, 32
-    .word 0x62c00f6f  # jal x30, 1580
+    .word 0x62800f6f  # jal x30, 1576
     # parameter 1: an array
     .word 0x00058293  # addi x5, x11, 0
     .word 0x02010313  # addi x6, x2, 32
     .word 0x02028393  # addi x7, x5, 32
-    .word 0x61c00f6f  # jal x30, 1564
+    .word 0x61800f6f  # jal x30, 1560
     # the body
-    .word 0x00000613  # addi x12, x0, 0
     .word 0x06000313  # addi x6, x0, 96
     .word 0x00230333  # add x6, x6, x2
     .word 0x02000393  # addi x7, x0, 32

@@ -1,4 +1,4 @@
-# p256_scalar_multiply: made by factc 1.0.0 function; 2536 words, 2656 bytes of stack, profile 1
+# p256_scalar_multiply: made by factc 1.0.0 function; 2533 words, 2656 bytes of stack, profile 1
     .option push
     .option norvc
     .option norelax
@@ -58,16 +58,13 @@ p256_scalar_multiply:
     .word 0x00050293  # addi x5, x10, 0
     .word 0x00010313  # addi x6, x2, 0
     .word 0x02028393  # addi x7, x5, 32
-    .word 0x6dc02f6f  # jal x30, 9948
+    .word 0x6d002f6f  # jal x30, 9936
     # parameter 1: an array
     .word 0x00058293  # addi x5, x11, 0
     .word 0x02010313  # addi x6, x2, 32
     .word 0x04028393  # addi x7, x5, 64
-    .word 0x6cc02f6f  # jal x30, 9932
+    .word 0x6c002f6f  # jal x30, 9920
     # the body
-    .word 0x00000793  # addi x15, x0, 0
-    .word 0x00279d93  # slli x27, x15, 2
-    .word 0x002d8db3  # add x27, x27, x2
     .word 0x000012b7  # lui x5, 0x00001
     .word 0xf0f28293  # addi x5, x5, -241
     .word 0x00001e37  # lui x28, 0x00001

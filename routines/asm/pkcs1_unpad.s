@@ -1,4 +1,4 @@
-# pkcs1_unpad: made by factc 1.0.0 function; 755 words, 224 bytes of stack, profile 1
+# pkcs1_unpad: made by factc 1.0.0 function; 677 words, 224 bytes of stack, profile 1
     .option push
     .option norvc
     .option norelax
@@ -49,7 +49,7 @@ pkcs1_unpad:
     .word 0x00050293  # addi x5, x10, 0
     .word 0x00010313  # addi x6, x2, 0
     .word 0x04028393  # addi x7, x5, 64
-    .word 0x34100f6f  # jal x30, 2880
+    .word 0x20900f6f  # jal x30, 2568
     # the body
     .word 0x00000793  # addi x15, x0, 0
     .word 0x00100713  # addi x14, x0, 1
@@ -613,109 +613,31 @@ pkcs1_unpad:
     .word 0x00f744b3  # xor x9, x14, x15
     .word 0xe25ff06f  # jal x0, -476
     .word 0x00080713  # addi x14, x16, 0
-    .word 0x04e10023  # sb x14, 64(x2)
-    .word 0x00875293  # srli x5, x14, 8
-    .word 0x045100a3  # sb x5, 65(x2)
-    .word 0x01075293  # srli x5, x14, 16
-    .word 0x04510123  # sb x5, 66(x2)
-    .word 0x01875293  # srli x5, x14, 24
-    .word 0x045101a3  # sb x5, 67(x2)
+    .word 0x04e12023  # sw x14, 64(x2)
     .word 0x00088713  # addi x14, x17, 0
-    .word 0x04e10223  # sb x14, 68(x2)
-    .word 0x00875293  # srli x5, x14, 8
-    .word 0x045102a3  # sb x5, 69(x2)
-    .word 0x01075293  # srli x5, x14, 16
-    .word 0x04510323  # sb x5, 70(x2)
-    .word 0x01875293  # srli x5, x14, 24
-    .word 0x045103a3  # sb x5, 71(x2)
+    .word 0x04e12223  # sw x14, 68(x2)
     .word 0x00090713  # addi x14, x18, 0
-    .word 0x04e10423  # sb x14, 72(x2)
-    .word 0x00875293  # srli x5, x14, 8
-    .word 0x045104a3  # sb x5, 73(x2)
-    .word 0x01075293  # srli x5, x14, 16
-    .word 0x04510523  # sb x5, 74(x2)
-    .word 0x01875293  # srli x5, x14, 24
-    .word 0x045105a3  # sb x5, 75(x2)
+    .word 0x04e12423  # sw x14, 72(x2)
     .word 0x00098713  # addi x14, x19, 0
-    .word 0x04e10623  # sb x14, 76(x2)
-    .word 0x00875293  # srli x5, x14, 8
-    .word 0x045106a3  # sb x5, 77(x2)
-    .word 0x01075293  # srli x5, x14, 16
-    .word 0x04510723  # sb x5, 78(x2)
-    .word 0x01875293  # srli x5, x14, 24
-    .word 0x045107a3  # sb x5, 79(x2)
+    .word 0x04e12623  # sw x14, 76(x2)
     .word 0x000a0713  # addi x14, x20, 0
-    .word 0x04e10823  # sb x14, 80(x2)
-    .word 0x00875293  # srli x5, x14, 8
-    .word 0x045108a3  # sb x5, 81(x2)
-    .word 0x01075293  # srli x5, x14, 16
-    .word 0x04510923  # sb x5, 82(x2)
-    .word 0x01875293  # srli x5, x14, 24
-    .word 0x045109a3  # sb x5, 83(x2)
+    .word 0x04e12823  # sw x14, 80(x2)
     .word 0x000a8713  # addi x14, x21, 0
-    .word 0x04e10a23  # sb x14, 84(x2)
-    .word 0x00875293  # srli x5, x14, 8
-    .word 0x04510aa3  # sb x5, 85(x2)
-    .word 0x01075293  # srli x5, x14, 16
-    .word 0x04510b23  # sb x5, 86(x2)
-    .word 0x01875293  # srli x5, x14, 24
-    .word 0x04510ba3  # sb x5, 87(x2)
+    .word 0x04e12a23  # sw x14, 84(x2)
     .word 0x000b0713  # addi x14, x22, 0
-    .word 0x04e10c23  # sb x14, 88(x2)
-    .word 0x00875293  # srli x5, x14, 8
-    .word 0x04510ca3  # sb x5, 89(x2)
-    .word 0x01075293  # srli x5, x14, 16
-    .word 0x04510d23  # sb x5, 90(x2)
-    .word 0x01875293  # srli x5, x14, 24
-    .word 0x04510da3  # sb x5, 91(x2)
+    .word 0x04e12c23  # sw x14, 88(x2)
     .word 0x000b8713  # addi x14, x23, 0
-    .word 0x04e10e23  # sb x14, 92(x2)
-    .word 0x00875293  # srli x5, x14, 8
-    .word 0x04510ea3  # sb x5, 93(x2)
-    .word 0x01075293  # srli x5, x14, 16
-    .word 0x04510f23  # sb x5, 94(x2)
-    .word 0x01875293  # srli x5, x14, 24
-    .word 0x04510fa3  # sb x5, 95(x2)
+    .word 0x04e12e23  # sw x14, 92(x2)
     .word 0x000c0713  # addi x14, x24, 0
-    .word 0x06e10023  # sb x14, 96(x2)
-    .word 0x00875293  # srli x5, x14, 8
-    .word 0x065100a3  # sb x5, 97(x2)
-    .word 0x01075293  # srli x5, x14, 16
-    .word 0x06510123  # sb x5, 98(x2)
-    .word 0x01875293  # srli x5, x14, 24
-    .word 0x065101a3  # sb x5, 99(x2)
+    .word 0x06e12023  # sw x14, 96(x2)
     .word 0x000c8713  # addi x14, x25, 0
-    .word 0x06e10223  # sb x14, 100(x2)
-    .word 0x00875293  # srli x5, x14, 8
-    .word 0x065102a3  # sb x5, 101(x2)
-    .word 0x01075293  # srli x5, x14, 16
-    .word 0x06510323  # sb x5, 102(x2)
-    .word 0x01875293  # srli x5, x14, 24
-    .word 0x065103a3  # sb x5, 103(x2)
+    .word 0x06e12223  # sw x14, 100(x2)
     .word 0x000d0713  # addi x14, x26, 0
-    .word 0x06e10423  # sb x14, 104(x2)
-    .word 0x00875293  # srli x5, x14, 8
-    .word 0x065104a3  # sb x5, 105(x2)
-    .word 0x01075293  # srli x5, x14, 16
-    .word 0x06510523  # sb x5, 106(x2)
-    .word 0x01875293  # srli x5, x14, 24
-    .word 0x065105a3  # sb x5, 107(x2)
+    .word 0x06e12423  # sw x14, 104(x2)
     .word 0x000d8713  # addi x14, x27, 0
-    .word 0x06e10623  # sb x14, 108(x2)
-    .word 0x00875293  # srli x5, x14, 8
-    .word 0x065106a3  # sb x5, 109(x2)
-    .word 0x01075293  # srli x5, x14, 16
-    .word 0x06510723  # sb x5, 110(x2)
-    .word 0x01875293  # srli x5, x14, 24
-    .word 0x065107a3  # sb x5, 111(x2)
+    .word 0x06e12623  # sw x14, 108(x2)
     .word 0x00040713  # addi x14, x8, 0
-    .word 0x06e10823  # sb x14, 112(x2)
-    .word 0x00875293  # srli x5, x14, 8
-    .word 0x065108a3  # sb x5, 113(x2)
-    .word 0x01075293  # srli x5, x14, 16
-    .word 0x06510923  # sb x5, 114(x2)
-    .word 0x01875293  # srli x5, x14, 24
-    .word 0x065109a3  # sb x5, 115(x2)
+    .word 0x06e12823  # sw x14, 112(x2)
     .word 0x06910a23  # sb x9, 116(x2)
     .word 0x08012283  # lw x5, 128(x2)
     .word 0x04000313  # addi x6, x0, 64

@@ -1,4 +1,4 @@
-# pkcs7_pad: made by factc 1.0.0 function; 71 words, 48 bytes of stack, profile 1
+# pkcs7_pad: made by factc 1.0.0 function; 70 words, 48 bytes of stack, profile 1
     .option push
     .option norvc
     .option norelax
@@ -25,10 +25,9 @@ pkcs7_pad:
     .word 0x00058293  # addi x5, x11, 0
     .word 0x00410313  # addi x6, x2, 4
     .word 0x01028393  # addi x7, x5, 16
-    .word 0x0a800f6f  # jal x30, 168
+    .word 0x0a400f6f  # jal x30, 164
     # the body
     .word 0x00012503  # lw x10, 0(x2)
-    .word 0x00000693  # addi x13, x0, 0
     .word 0x00f57593  # andi x11, x10, 15
     .word 0x01000293  # addi x5, x0, 16
     .word 0x40b282b3  # sub x5, x5, x11

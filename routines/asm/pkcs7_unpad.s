@@ -1,4 +1,4 @@
-# pkcs7_unpad: made by factc 1.0.0 function; 98 words, 32 bytes of stack, profile 1
+# pkcs7_unpad: made by factc 1.0.0 function; 97 words, 32 bytes of stack, profile 1
     .option push
     .option norvc
     .option norelax
@@ -20,9 +20,8 @@ pkcs7_unpad:
     .word 0x00050293  # addi x5, x10, 0
     .word 0x00010313  # addi x6, x2, 0
     .word 0x01028393  # addi x7, x5, 16
-    .word 0x12400f6f  # jal x30, 292
+    .word 0x12000f6f  # jal x30, 288
     # the body
-    .word 0x00000693  # addi x13, x0, 0
     .word 0x00f14503  # lbu x10, 15(x2)
     .word 0xfff50293  # addi x5, x10, -1
     .word 0x01000313  # addi x6, x0, 16

@@ -1,4 +1,4 @@
-# poly1305: made by factc 1.0.0 function; 791 words, 304 bytes of stack, profile 1
+# poly1305: made by factc 1.0.0 function; 766 words, 304 bytes of stack, profile 1
     .option push
     .option norvc
     .option norelax
@@ -51,16 +51,15 @@ poly1305:
     .word 0x00050293  # addi x5, x10, 0
     .word 0x00010313  # addi x6, x2, 0
     .word 0x02028393  # addi x7, x5, 32
-    .word 0x3b100f6f  # jal x30, 2992
+    .word 0x34d00f6f  # jal x30, 2892
     # parameter 1: an array
     .word 0x00058293  # addi x5, x11, 0
     .word 0x02010313  # addi x6, x2, 32
     .word 0x04028393  # addi x7, x5, 64
-    .word 0x3a100f6f  # jal x30, 2976
+    .word 0x33d00f6f  # jal x30, 2876
     # parameter 2: a word
     .word 0x06c12023  # sw x12, 96(x2)
     # the body
-    .word 0x00000713  # addi x14, x0, 0
     .word 0x06012283  # lw x5, 96(x2)
     .word 0x0402b293  # sltiu x5, x5, 64
     .word 0x06012303  # lw x6, 96(x2)
@@ -690,13 +689,7 @@ poly1305:
     .word 0x00f90db3  # add x27, x18, x15
     .word 0x00fdb333  # sltu x6, x27, x15
     .word 0x006484b3  # add x9, x9, x6
-    .word 0x07b10223  # sb x27, 100(x2)
-    .word 0x008dd293  # srli x5, x27, 8
-    .word 0x065102a3  # sb x5, 101(x2)
-    .word 0x010dd293  # srli x5, x27, 16
-    .word 0x06510323  # sb x5, 102(x2)
-    .word 0x018dd293  # srli x5, x27, 24
-    .word 0x065103a3  # sb x5, 103(x2)
+    .word 0x07b12223  # sw x27, 100(x2)
     .word 0x00048d93  # addi x27, x9, 0
     .word 0x01414503  # lbu x10, 20(x2)
     .word 0x01514583  # lbu x11, 21(x2)
@@ -713,13 +706,7 @@ poly1305:
     .word 0x012d8db3  # add x27, x27, x18
     .word 0x012db333  # sltu x6, x27, x18
     .word 0x006484b3  # add x9, x9, x6
-    .word 0x07b10423  # sb x27, 104(x2)
-    .word 0x008dd293  # srli x5, x27, 8
-    .word 0x065104a3  # sb x5, 105(x2)
-    .word 0x010dd293  # srli x5, x27, 16
-    .word 0x06510523  # sb x5, 106(x2)
-    .word 0x018dd293  # srli x5, x27, 24
-    .word 0x065105a3  # sb x5, 107(x2)
+    .word 0x07b12423  # sw x27, 104(x2)
     .word 0x00048d93  # addi x27, x9, 0
     .word 0x01814503  # lbu x10, 24(x2)
     .word 0x01914583  # lbu x11, 25(x2)
@@ -736,13 +723,7 @@ poly1305:
     .word 0x012d8db3  # add x27, x27, x18
     .word 0x012db333  # sltu x6, x27, x18
     .word 0x006484b3  # add x9, x9, x6
-    .word 0x07b10623  # sb x27, 108(x2)
-    .word 0x008dd293  # srli x5, x27, 8
-    .word 0x065106a3  # sb x5, 109(x2)
-    .word 0x010dd293  # srli x5, x27, 16
-    .word 0x06510723  # sb x5, 110(x2)
-    .word 0x018dd293  # srli x5, x27, 24
-    .word 0x065107a3  # sb x5, 111(x2)
+    .word 0x07b12623  # sw x27, 108(x2)
     .word 0x00048d93  # addi x27, x9, 0
     .word 0x01c14503  # lbu x10, 28(x2)
     .word 0x01d14583  # lbu x11, 29(x2)
@@ -756,13 +737,7 @@ poly1305:
     .word 0x0062e4b3  # or x9, x5, x6
     .word 0x015d8db3  # add x27, x27, x21
     .word 0x009d8db3  # add x27, x27, x9
-    .word 0x07b10823  # sb x27, 112(x2)
-    .word 0x008dd293  # srli x5, x27, 8
-    .word 0x065108a3  # sb x5, 113(x2)
-    .word 0x010dd293  # srli x5, x27, 16
-    .word 0x06510923  # sb x5, 114(x2)
-    .word 0x018dd293  # srli x5, x27, 24
-    .word 0x065109a3  # sb x5, 115(x2)
+    .word 0x07b12823  # sw x27, 112(x2)
     # the result
     .word 0x00000513  # addi x10, x0, 0
     # parameter 3: the array, back

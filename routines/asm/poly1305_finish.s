@@ -1,4 +1,4 @@
-# poly1305_finish: made by factc 1.0.0 function; 273 words, 160 bytes of stack, profile 1
+# poly1305_finish: made by factc 1.0.0 function; 249 words, 160 bytes of stack, profile 1
     .option push
     .option norvc
     .option norelax
@@ -46,12 +46,12 @@ poly1305_finish:
     .word 0x00050293  # addi x5, x10, 0
     .word 0x00010313  # addi x6, x2, 0
     .word 0x02028393  # addi x7, x5, 32
-    .word 0x3a400f6f  # jal x30, 932
+    .word 0x34400f6f  # jal x30, 836
     # parameter 1: an array
     .word 0x00058293  # addi x5, x11, 0
     .word 0x02010313  # addi x6, x2, 32
     .word 0x02028393  # addi x7, x5, 32
-    .word 0x39400f6f  # jal x30, 916
+    .word 0x33400f6f  # jal x30, 820
     .word 0x0002ae03  # lw x28, 0(x5)
     .word 0x01c32023  # sw x28, 0(x6)
     .word 0x0042ae03  # lw x28, 4(x5)
@@ -171,13 +171,7 @@ poly1305_finish:
     .word 0x01270bb3  # add x23, x14, x18
     .word 0x012bb333  # sltu x6, x23, x18
     .word 0x006c0c33  # add x24, x24, x6
-    .word 0x05710423  # sb x23, 72(x2)
-    .word 0x008bd293  # srli x5, x23, 8
-    .word 0x045104a3  # sb x5, 73(x2)
-    .word 0x010bd293  # srli x5, x23, 16
-    .word 0x04510523  # sb x5, 74(x2)
-    .word 0x018bd293  # srli x5, x23, 24
-    .word 0x045105a3  # sb x5, 75(x2)
+    .word 0x05712423  # sw x23, 72(x2)
     .word 0x000c0b93  # addi x23, x24, 0
     .word 0x01414503  # lbu x10, 20(x2)
     .word 0x01514583  # lbu x11, 21(x2)
@@ -194,13 +188,7 @@ poly1305_finish:
     .word 0x00eb8bb3  # add x23, x23, x14
     .word 0x00ebb333  # sltu x6, x23, x14
     .word 0x006c0c33  # add x24, x24, x6
-    .word 0x05710623  # sb x23, 76(x2)
-    .word 0x008bd293  # srli x5, x23, 8
-    .word 0x045106a3  # sb x5, 77(x2)
-    .word 0x010bd293  # srli x5, x23, 16
-    .word 0x04510723  # sb x5, 78(x2)
-    .word 0x018bd293  # srli x5, x23, 24
-    .word 0x045107a3  # sb x5, 79(x2)
+    .word 0x05712623  # sw x23, 76(x2)
     .word 0x000c0b93  # addi x23, x24, 0
     .word 0x01814503  # lbu x10, 24(x2)
     .word 0x01914583  # lbu x11, 25(x2)
@@ -217,13 +205,7 @@ poly1305_finish:
     .word 0x00eb8bb3  # add x23, x23, x14
     .word 0x00ebb333  # sltu x6, x23, x14
     .word 0x006c0c33  # add x24, x24, x6
-    .word 0x05710823  # sb x23, 80(x2)
-    .word 0x008bd293  # srli x5, x23, 8
-    .word 0x045108a3  # sb x5, 81(x2)
-    .word 0x010bd293  # srli x5, x23, 16
-    .word 0x04510923  # sb x5, 82(x2)
-    .word 0x018bd293  # srli x5, x23, 24
-    .word 0x045109a3  # sb x5, 83(x2)
+    .word 0x05712823  # sw x23, 80(x2)
     .word 0x000c0b93  # addi x23, x24, 0
     .word 0x01c14503  # lbu x10, 28(x2)
     .word 0x01d14583  # lbu x11, 29(x2)
@@ -237,13 +219,7 @@ poly1305_finish:
     .word 0x0062ec33  # or x24, x5, x6
     .word 0x011b8bb3  # add x23, x23, x17
     .word 0x018b8bb3  # add x23, x23, x24
-    .word 0x05710a23  # sb x23, 84(x2)
-    .word 0x008bd293  # srli x5, x23, 8
-    .word 0x04510aa3  # sb x5, 85(x2)
-    .word 0x010bd293  # srli x5, x23, 16
-    .word 0x04510b23  # sb x5, 86(x2)
-    .word 0x018bd293  # srli x5, x23, 24
-    .word 0x04510ba3  # sb x5, 87(x2)
+    .word 0x05712a23  # sw x23, 84(x2)
     # the result
     .word 0x00000513  # addi x10, x0, 0
     # parameter 2: the array, back

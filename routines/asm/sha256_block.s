@@ -1,4 +1,4 @@
-# sha256_block: made by factc 1.0.0 function; 1449 words, 480 bytes of stack, profile 1
+# sha256_block: made by factc 1.0.0 function; 1446 words, 480 bytes of stack, profile 1
     .option push
     .option norvc
     .option norelax
@@ -46,16 +46,13 @@ sha256_block:
     .word 0x00050293  # addi x5, x10, 0
     .word 0x00010313  # addi x6, x2, 0
     .word 0x02028393  # addi x7, x5, 32
-    .word 0x60801f6f  # jal x30, 5640
+    .word 0x5fc01f6f  # jal x30, 5628
     # parameter 1: an array
     .word 0x00058293  # addi x5, x11, 0
     .word 0x02010313  # addi x6, x2, 32
     .word 0x04028393  # addi x7, x5, 64
-    .word 0x5f801f6f  # jal x30, 5624
+    .word 0x5ec01f6f  # jal x30, 5612
     # the body
-    .word 0x00000a13  # addi x20, x0, 0
-    .word 0x002a1493  # slli x9, x20, 2
-    .word 0x002484b3  # add x9, x9, x2
     .word 0x428a32b7  # lui x5, 0x428a3
     .word 0xf9828293  # addi x5, x5, -104
     .word 0x06512023  # sw x5, 96(x2)

@@ -1,4 +1,4 @@
-# sha3_256_short: made by factc 1.0.0 function; 1085 words, 784 bytes of stack, profile 1
+# sha3_256_short: made by factc 1.0.0 function; 1037 words, 784 bytes of stack, profile 1
     .option push
     .option norvc
     .option norelax
@@ -46,7 +46,7 @@ sha3_256_short:
     .word 0x00050293  # addi x5, x10, 0
     .word 0x00010313  # addi x6, x2, 0
     .word 0x08428393  # addi x7, x5, 132
-    .word 0x06c01f6f  # jal x30, 4204
+    .word 0x7ad00f6f  # jal x30, 4012
     .word 0x0002ce03  # lbu x28, 0(x5)
     .word 0x01c30023  # sb x28, 0(x6)
     .word 0x0012ce03  # lbu x28, 1(x5)
@@ -997,69 +997,21 @@ sha3_256_short:
     .word 0xfff2c913  # xori x18, x5, -1
     .word 0x1bc12983  # lw x19, 444(x2)
     .word 0x1c012a03  # lw x20, 448(x2)
-    .word 0x08e10623  # sb x14, 140(x2)
-    .word 0x00875293  # srli x5, x14, 8
-    .word 0x085106a3  # sb x5, 141(x2)
-    .word 0x01075293  # srli x5, x14, 16
-    .word 0x08510723  # sb x5, 142(x2)
-    .word 0x01875293  # srli x5, x14, 24
-    .word 0x085107a3  # sb x5, 143(x2)
+    .word 0x08e12623  # sw x14, 140(x2)
     .word 0x00078713  # addi x14, x15, 0
-    .word 0x08e10823  # sb x14, 144(x2)
-    .word 0x00875293  # srli x5, x14, 8
-    .word 0x085108a3  # sb x5, 145(x2)
-    .word 0x01075293  # srli x5, x14, 16
-    .word 0x08510923  # sb x5, 146(x2)
-    .word 0x01875293  # srli x5, x14, 24
-    .word 0x085109a3  # sb x5, 147(x2)
+    .word 0x08e12823  # sw x14, 144(x2)
     .word 0x26412703  # lw x14, 612(x2)
-    .word 0x08e10a23  # sb x14, 148(x2)
-    .word 0x00875293  # srli x5, x14, 8
-    .word 0x08510aa3  # sb x5, 149(x2)
-    .word 0x01075293  # srli x5, x14, 16
-    .word 0x08510b23  # sb x5, 150(x2)
-    .word 0x01875293  # srli x5, x14, 24
-    .word 0x08510ba3  # sb x5, 151(x2)
+    .word 0x08e12a23  # sw x14, 148(x2)
     .word 0x00080713  # addi x14, x16, 0
-    .word 0x08e10c23  # sb x14, 152(x2)
-    .word 0x00875293  # srli x5, x14, 8
-    .word 0x08510ca3  # sb x5, 153(x2)
-    .word 0x01075293  # srli x5, x14, 16
-    .word 0x08510d23  # sb x5, 154(x2)
-    .word 0x01875293  # srli x5, x14, 24
-    .word 0x08510da3  # sb x5, 155(x2)
+    .word 0x08e12c23  # sw x14, 152(x2)
     .word 0x00088713  # addi x14, x17, 0
-    .word 0x08e10e23  # sb x14, 156(x2)
-    .word 0x00875293  # srli x5, x14, 8
-    .word 0x08510ea3  # sb x5, 157(x2)
-    .word 0x01075293  # srli x5, x14, 16
-    .word 0x08510f23  # sb x5, 158(x2)
-    .word 0x01875293  # srli x5, x14, 24
-    .word 0x08510fa3  # sb x5, 159(x2)
+    .word 0x08e12e23  # sw x14, 156(x2)
     .word 0x00090713  # addi x14, x18, 0
-    .word 0x0ae10023  # sb x14, 160(x2)
-    .word 0x00875293  # srli x5, x14, 8
-    .word 0x0a5100a3  # sb x5, 161(x2)
-    .word 0x01075293  # srli x5, x14, 16
-    .word 0x0a510123  # sb x5, 162(x2)
-    .word 0x01875293  # srli x5, x14, 24
-    .word 0x0a5101a3  # sb x5, 163(x2)
+    .word 0x0ae12023  # sw x14, 160(x2)
     .word 0x00098713  # addi x14, x19, 0
-    .word 0x0ae10223  # sb x14, 164(x2)
-    .word 0x00875293  # srli x5, x14, 8
-    .word 0x0a5102a3  # sb x5, 165(x2)
-    .word 0x01075293  # srli x5, x14, 16
-    .word 0x0a510323  # sb x5, 166(x2)
-    .word 0x01875293  # srli x5, x14, 24
-    .word 0x0a5103a3  # sb x5, 167(x2)
+    .word 0x0ae12223  # sw x14, 164(x2)
     .word 0x000a0713  # addi x14, x20, 0
-    .word 0x0ae10423  # sb x14, 168(x2)
-    .word 0x00875293  # srli x5, x14, 8
-    .word 0x0a5104a3  # sb x5, 169(x2)
-    .word 0x01075293  # srli x5, x14, 16
-    .word 0x0a510523  # sb x5, 170(x2)
-    .word 0x01875293  # srli x5, x14, 24
-    .word 0x0a5105a3  # sb x5, 171(x2)
+    .word 0x0ae12423  # sw x14, 168(x2)
     # the result
     .word 0x00000513  # addi x10, x0, 0
     # parameter 2: the array, back

@@ -1,4 +1,4 @@
-# sha_pad_block: made by factc 1.0.0 function; 134 words, 128 bytes of stack, profile 1
+# sha_pad_block: made by factc 1.0.0 function; 132 words, 128 bytes of stack, profile 1
     .option push
     .option norvc
     .option norelax
@@ -30,7 +30,7 @@ sha_pad_block:
     .word 0x00050293  # addi x5, x10, 0
     .word 0x00010313  # addi x6, x2, 0
     .word 0x04028393  # addi x7, x5, 64
-    .word 0x19c00f6f  # jal x30, 412
+    .word 0x19400f6f  # jal x30, 404
     # parameter 1: a word
     .word 0x04b12023  # sw x11, 64(x2)
     # parameter 2: a word
@@ -38,8 +38,6 @@ sha_pad_block:
     # the body
     .word 0x04012583  # lw x11, 64(x2)
     .word 0x04412603  # lw x12, 68(x2)
-    .word 0x00000713  # addi x14, x0, 0
-    .word 0x002709b3  # add x19, x14, x2
     .word 0x00659913  # slli x18, x11, 6
     .word 0x412606b3  # sub x13, x12, x18
     .word 0x012632b3  # sltu x5, x12, x18

@@ -1,4 +1,4 @@
-# shift_left_64: made by factc 1.0.0 function; 63 words, 32 bytes of stack, profile 1
+# shift_left_64: made by factc 1.0.0 function; 62 words, 32 bytes of stack, profile 1
     .option push
     .option norvc
     .option norelax
@@ -35,8 +35,7 @@ shift_left_64:
     .word 0x00b292b3  # sll x5, x5, x11
     .word 0x00012303  # lw x6, 0(x2)
     .word 0x00135313  # srli x6, x6, 1
-    .word 0x40b003b3  # sub x7, x0, x11
-    .word 0xfff38393  # addi x7, x7, -1
+    .word 0xfff5c393  # xori x7, x11, -1
     .word 0x00735333  # srl x6, x6, x7
     .word 0x0062e6b3  # or x13, x5, x6
     .word 0x0205b713  # sltiu x14, x11, 32

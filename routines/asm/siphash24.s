@@ -1,4 +1,4 @@
-# siphash24: made by factc 1.0.0 function; 317 words, 176 bytes of stack, profile 1
+# siphash24: made by factc 1.0.0 function; 307 words, 176 bytes of stack, profile 1
     .option push
     .option norvc
     .option norelax
@@ -45,12 +45,12 @@ siphash24:
     .word 0x00050293  # addi x5, x10, 0
     .word 0x00010313  # addi x6, x2, 0
     .word 0x01028393  # addi x7, x5, 16
-    .word 0x46c00f6f  # jal x30, 1132
+    .word 0x44400f6f  # jal x30, 1092
     # parameter 1: an array
     .word 0x00058293  # addi x5, x11, 0
     .word 0x01010313  # addi x6, x2, 16
     .word 0x03c28393  # addi x7, x5, 60
-    .word 0x45c00f6f  # jal x30, 1116
+    .word 0x43400f6f  # jal x30, 1076
     .word 0x0002ce03  # lbu x28, 0(x5)
     .word 0x01c30023  # sb x28, 0(x6)
     .word 0x0012ce03  # lbu x28, 1(x5)
@@ -281,18 +281,8 @@ siphash24:
     .word 0x00d5c2b3  # xor x5, x11, x13
     .word 0x00f2c2b3  # xor x5, x5, x15
     .word 0x0112c8b3  # xor x17, x5, x17
-    .word 0xfff00b13  # addi x22, x0, -1
-    .word 0x001b0b13  # addi x22, x22, 1
-    .word 0x003b1393  # slli x7, x22, 3
-    .word 0x0079d333  # srl x6, x19, x7
-    .word 0x002b02b3  # add x5, x22, x2
-    .word 0x04628a23  # sb x6, 84(x5)
-    .word 0x003b1393  # slli x7, x22, 3
-    .word 0x0078d333  # srl x6, x17, x7
-    .word 0x002b02b3  # add x5, x22, x2
-    .word 0x04628c23  # sb x6, 88(x5)
-    .word 0xffdb0293  # addi x5, x22, -3
-    .word 0xfc029ce3  # bne x5, x0, -40
+    .word 0x05312a23  # sw x19, 84(x2)
+    .word 0x05112c23  # sw x17, 88(x2)
     # the result
     .word 0x00000513  # addi x10, x0, 0
     # parameter 3: the array, back

@@ -1,4 +1,4 @@
-# siphash24_finish: made by factc 1.0.0 function; 162 words, 96 bytes of stack, profile 1
+# siphash24_finish: made by factc 1.0.0 function; 149 words, 96 bytes of stack, profile 1
     .option push
     .option norvc
     .option norelax
@@ -32,14 +32,13 @@ siphash24_finish:
     .word 0x00050293  # addi x5, x10, 0
     .word 0x00010313  # addi x6, x2, 0
     .word 0x02028393  # addi x7, x5, 32
-    .word 0x21400f6f  # jal x30, 532
+    .word 0x1e000f6f  # jal x30, 480
     # parameter 1: an array
     .word 0x00058293  # addi x5, x11, 0
     .word 0x02010313  # addi x6, x2, 32
     .word 0x00828393  # addi x7, x5, 8
-    .word 0x20400f6f  # jal x30, 516
+    .word 0x1d000f6f  # jal x30, 464
     # the body
-    .word 0x00000a93  # addi x21, x0, 0
     .word 0x00012503  # lw x10, 0(x2)
     .word 0x00412583  # lw x11, 4(x2)
     .word 0x00812603  # lw x12, 8(x2)
@@ -121,20 +120,8 @@ siphash24_finish:
     .word 0x00d5c2b3  # xor x5, x11, x13
     .word 0x00f2c2b3  # xor x5, x5, x15
     .word 0x0112c833  # xor x16, x5, x17
-    .word 0x03210423  # sb x18, 40(x2)
-    .word 0x03010623  # sb x16, 44(x2)
-    .word 0x00895293  # srli x5, x18, 8
-    .word 0x025104a3  # sb x5, 41(x2)
-    .word 0x00885293  # srli x5, x16, 8
-    .word 0x025106a3  # sb x5, 45(x2)
-    .word 0x01095293  # srli x5, x18, 16
-    .word 0x02510523  # sb x5, 42(x2)
-    .word 0x01085293  # srli x5, x16, 16
-    .word 0x02510723  # sb x5, 46(x2)
-    .word 0x01895293  # srli x5, x18, 24
-    .word 0x025105a3  # sb x5, 43(x2)
-    .word 0x01885293  # srli x5, x16, 24
-    .word 0x025107a3  # sb x5, 47(x2)
+    .word 0x03212423  # sw x18, 40(x2)
+    .word 0x03012623  # sw x16, 44(x2)
     # the result
     .word 0x00000513  # addi x10, x0, 0
     # parameter 2: the array, back

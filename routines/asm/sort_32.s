@@ -1,4 +1,4 @@
-# sort_32: made by factc 1.0.0 function; 115 words, 192 bytes of stack, profile 1
+# sort_32: made by factc 1.0.0 function; 113 words, 192 bytes of stack, profile 1
     .option push
     .option norvc
     .option norelax
@@ -34,10 +34,8 @@ sort_32:
     .word 0x00050293  # addi x5, x10, 0
     .word 0x00010313  # addi x6, x2, 0
     .word 0x08028393  # addi x7, x5, 128
-    .word 0x14800f6f  # jal x30, 328
+    .word 0x14000f6f  # jal x30, 320
     # the body
-    .word 0x00000613  # addi x12, x0, 0
-    .word 0x00000713  # addi x14, x0, 0
     .word 0x00100513  # addi x10, x0, 1
     .word 0x00000593  # addi x11, x0, 0
     .word 0x00000613  # addi x12, x0, 0

@@ -1,4 +1,4 @@
-# sort_pairs_16: made by factc 1.0.0 function; 145 words, 208 bytes of stack, profile 1
+# sort_pairs_16: made by factc 1.0.0 function; 143 words, 208 bytes of stack, profile 1
     .option push
     .option norvc
     .option norelax
@@ -43,15 +43,13 @@ sort_pairs_16:
     .word 0x00050293  # addi x5, x10, 0
     .word 0x00010313  # addi x6, x2, 0
     .word 0x04028393  # addi x7, x5, 64
-    .word 0x1ac00f6f  # jal x30, 428
+    .word 0x1a400f6f  # jal x30, 420
     # parameter 1: an array
     .word 0x00058293  # addi x5, x11, 0
     .word 0x04010313  # addi x6, x2, 64
     .word 0x04028393  # addi x7, x5, 64
-    .word 0x19c00f6f  # jal x30, 412
+    .word 0x19400f6f  # jal x30, 404
     # the body
-    .word 0x00000613  # addi x12, x0, 0
-    .word 0x00000713  # addi x14, x0, 0
     .word 0x00100513  # addi x10, x0, 1
     .word 0x00000593  # addi x11, x0, 0
     .word 0xfff00613  # addi x12, x0, -1

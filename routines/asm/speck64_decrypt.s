@@ -1,4 +1,4 @@
-# speck64_decrypt: made by factc 1.0.0 function; 158 words, 64 bytes of stack, profile 1
+# speck64_decrypt: made by factc 1.0.0 function; 157 words, 64 bytes of stack, profile 1
     .option push
     .option norvc
     .option norelax
@@ -38,7 +38,6 @@ speck64_decrypt:
     .word 0x0042ae03  # lw x28, 4(x5)
     .word 0x01c32223  # sw x28, 4(x6)
     # the body
-    .word 0x00000813  # addi x16, x0, 0
     .word 0x01012503  # lw x10, 16(x2)
     .word 0x01412583  # lw x11, 20(x2)
     .word 0x00c12603  # lw x12, 12(x2)

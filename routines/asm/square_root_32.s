@@ -1,4 +1,4 @@
-# square_root_32: made by factc 1.0.0 function; 46 words, 16 bytes of stack, profile 1
+# square_root_32: made by factc 1.0.0 function; 45 words, 16 bytes of stack, profile 1
     .option push
     .option norvc
     .option norelax
@@ -20,7 +20,6 @@ square_root_32:
     .word 0x00a12023  # sw x10, 0(x2)
     # the body
     .word 0x00012503  # lw x10, 0(x2)
-    .word 0x00000713  # addi x14, x0, 0
     .word 0x00050593  # addi x11, x10, 0
     .word 0x00000613  # addi x12, x0, 0
     .word 0x400006b7  # lui x13, 0x40000

@@ -1,4 +1,4 @@
-# swap_32: made by factc 1.0.0 function; 109 words, 96 bytes of stack, profile 1
+# swap_32: made by factc 1.0.0 function; 108 words, 96 bytes of stack, profile 1
     .option push
     .option norvc
     .option norelax
@@ -27,15 +27,14 @@ swap_32:
     .word 0x00058293  # addi x5, x11, 0
     .word 0x00410313  # addi x6, x2, 4
     .word 0x02028393  # addi x7, x5, 32
-    .word 0x13800f6f  # jal x30, 312
+    .word 0x13400f6f  # jal x30, 308
     # parameter 2: an array
     .word 0x00060293  # addi x5, x12, 0
     .word 0x02410313  # addi x6, x2, 36
     .word 0x02028393  # addi x7, x5, 32
-    .word 0x12800f6f  # jal x30, 296
+    .word 0x12400f6f  # jal x30, 292
     # the body
     .word 0x00012503  # lw x10, 0(x2)
-    .word 0x00000613  # addi x12, x0, 0
     .word 0x40a005b3  # sub x11, x0, x10
     .word 0xfff00613  # addi x12, x0, -1
     .word 0x00160613  # addi x12, x12, 1

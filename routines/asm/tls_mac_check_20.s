@@ -1,4 +1,4 @@
-# tls_mac_check_20: made by factc 1.0.0 function; 475 words, 368 bytes of stack, profile 1
+# tls_mac_check_20: made by factc 1.0.0 function; 474 words, 368 bytes of stack, profile 1
     .option push
     .option norvc
     .option norelax
@@ -41,17 +41,16 @@ tls_mac_check_20:
     .word 0x00050293  # addi x5, x10, 0
     .word 0x00010313  # addi x6, x2, 0
     .word 0x11828393  # addi x7, x5, 280
-    .word 0x6f400f6f  # jal x30, 1780
+    .word 0x6f000f6f  # jal x30, 1776
     # parameter 1: a word
     .word 0x10b12c23  # sw x11, 280(x2)
     # parameter 2: an array
     .word 0x00060293  # addi x5, x12, 0
     .word 0x11c10313  # addi x6, x2, 284
     .word 0x01428393  # addi x7, x5, 20
-    .word 0x6e000f6f  # jal x30, 1760
+    .word 0x6dc00f6f  # jal x30, 1756
     # the body
     .word 0x11812503  # lw x10, 280(x2)
-    .word 0x00000793  # addi x15, x0, 0
     .word 0x10400293  # addi x5, x0, 260
     .word 0x40a285b3  # sub x11, x5, x10
     .word 0x0025d613  # srli x12, x11, 2

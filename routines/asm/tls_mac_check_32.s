@@ -1,4 +1,4 @@
-# tls_mac_check_32: made by factc 1.0.0 function; 500 words, 416 bytes of stack, profile 1
+# tls_mac_check_32: made by factc 1.0.0 function; 499 words, 416 bytes of stack, profile 1
     .option push
     .option norvc
     .option norelax
@@ -43,16 +43,15 @@ tls_mac_check_32:
     .word 0x00050293  # addi x5, x10, 0
     .word 0x00010313  # addi x6, x2, 0
     .word 0x12028393  # addi x7, x5, 288
-    .word 0x73c00f6f  # jal x30, 1852
+    .word 0x73800f6f  # jal x30, 1848
     # parameter 1: a word
     .word 0x12b12023  # sw x11, 288(x2)
     # parameter 2: an array
     .word 0x00060293  # addi x5, x12, 0
     .word 0x12410313  # addi x6, x2, 292
     .word 0x02028393  # addi x7, x5, 32
-    .word 0x72800f6f  # jal x30, 1832
+    .word 0x72400f6f  # jal x30, 1828
     # the body
-    .word 0x00000613  # addi x12, x0, 0
     .word 0x10000293  # addi x5, x0, 256
     .word 0x12012303  # lw x6, 288(x2)
     .word 0x40628533  # sub x10, x5, x6

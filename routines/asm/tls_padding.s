@@ -1,4 +1,4 @@
-# tls_padding: made by factc 1.0.0 function; 108 words, 304 bytes of stack, profile 1
+# tls_padding: made by factc 1.0.0 function; 107 words, 304 bytes of stack, profile 1
     .option push
     .option norvc
     .option norelax
@@ -23,7 +23,7 @@ tls_padding:
     .word 0x00050293  # addi x5, x10, 0
     .word 0x00010313  # addi x6, x2, 0
     .word 0x10028393  # addi x7, x5, 256
-    .word 0x14400f6f  # jal x30, 324
+    .word 0x14000f6f  # jal x30, 320
     # parameter 1: a word
     .word 0x10b12023  # sw x11, 256(x2)
     # parameter 2: a word
@@ -31,7 +31,6 @@ tls_padding:
     # the body
     .word 0x10012503  # lw x10, 256(x2)
     .word 0x10412583  # lw x11, 260(x2)
-    .word 0x00000813  # addi x16, x0, 0
     .word 0x0ff14603  # lbu x12, 255(x2)
     .word 0x00160693  # addi x13, x12, 1
     .word 0x00000713  # addi x14, x0, 0

@@ -1,4 +1,4 @@
-# x25519: made by factc 1.0.0 function; 1908 words, 1504 bytes of stack, profile 1
+# x25519: made by factc 1.0.0 function; 1904 words, 1504 bytes of stack, profile 1
     .option push
     .option norvc
     .option norelax
@@ -57,19 +57,16 @@ x25519:
     .word 0x00050293  # addi x5, x10, 0
     .word 0x00010313  # addi x6, x2, 0
     .word 0x02028393  # addi x7, x5, 32
-    .word 0x51101f6f  # jal x30, 7440
+    .word 0x50101f6f  # jal x30, 7424
     # parameter 1: an array
     .word 0x00058293  # addi x5, x11, 0
     .word 0x02010313  # addi x6, x2, 32
     .word 0x02028393  # addi x7, x5, 32
-    .word 0x50101f6f  # jal x30, 7424
+    .word 0x4f101f6f  # jal x30, 7408
     # the body
     .word 0x00000513  # addi x10, x0, 0
-    .word 0x00000693  # addi x13, x0, 0
     .word 0x00251d13  # slli x26, x10, 2
     .word 0x002d0d33  # add x26, x26, x2
-    .word 0x00269d93  # slli x27, x13, 2
-    .word 0x002d8db3  # add x27, x27, x2
     .word 0x800002b7  # lui x5, 0x80000
     .word 0xfff28293  # addi x5, x5, -1
     .word 0x56512623  # sw x5, 1388(x2)
@@ -1763,8 +1760,7 @@ x25519:
     .word 0x00b2b5b3  # sltu x11, x5, x11
     .word 0x09c12283  # lw x5, 156(x2)
     .word 0x00b282b3  # add x5, x5, x11
-    .word 0x01f2d293  # srli x5, x5, 31
-    .word 0x405002b3  # sub x5, x0, x5
+    .word 0x41f2d293  # srai x5, x5, 31
     .word 0x0132f593  # andi x11, x5, 19
     .word 0x08012283  # lw x5, 128(x2)
     .word 0x00b28733  # add x14, x5, x11

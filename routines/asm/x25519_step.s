@@ -1,4 +1,4 @@
-# x25519_step: made by factc 1.0.0 function; 1825 words, 880 bytes of stack, profile 1
+# x25519_step: made by factc 1.0.0 function; 1821 words, 880 bytes of stack, profile 1
     .option push
     .option norvc
     .option norelax
@@ -49,12 +49,12 @@ x25519_step:
     .word 0x00058293  # addi x5, x11, 0
     .word 0x00410313  # addi x6, x2, 4
     .word 0x02028393  # addi x7, x5, 32
-    .word 0x3dd01f6f  # jal x30, 7132
+    .word 0x3cd01f6f  # jal x30, 7116
     # parameter 2: an array
     .word 0x00060293  # addi x5, x12, 0
     .word 0x02410313  # addi x6, x2, 36
     .word 0x08028393  # addi x7, x5, 128
-    .word 0x3cd01f6f  # jal x30, 7116
+    .word 0x3bd01f6f  # jal x30, 7100
     # the body
     .word 0x800002b7  # lui x5, 0x80000
     .word 0xfff28293  # addi x5, x5, -1
@@ -1510,8 +1510,7 @@ x25519_step:
     .word 0x00e2b733  # sltu x14, x5, x14
     .word 0x0e012283  # lw x5, 224(x2)
     .word 0x00e282b3  # add x5, x5, x14
-    .word 0x01f2d293  # srli x5, x5, 31
-    .word 0x405002b3  # sub x5, x0, x5
+    .word 0x41f2d293  # srai x5, x5, 31
     .word 0x0132f713  # andi x14, x5, 19
     .word 0x0c412283  # lw x5, 196(x2)
     .word 0x00e285b3  # add x11, x5, x14
@@ -1571,8 +1570,7 @@ x25519_step:
     .word 0x00e2b733  # sltu x14, x5, x14
     .word 0x10012283  # lw x5, 256(x2)
     .word 0x00e282b3  # add x5, x5, x14
-    .word 0x01f2d293  # srli x5, x5, 31
-    .word 0x405002b3  # sub x5, x0, x5
+    .word 0x41f2d293  # srai x5, x5, 31
     .word 0x0132f713  # andi x14, x5, 19
     .word 0x0e412283  # lw x5, 228(x2)
     .word 0x00e285b3  # add x11, x5, x14
@@ -1632,8 +1630,7 @@ x25519_step:
     .word 0x00e2b733  # sltu x14, x5, x14
     .word 0x12012283  # lw x5, 288(x2)
     .word 0x00e282b3  # add x5, x5, x14
-    .word 0x01f2d293  # srli x5, x5, 31
-    .word 0x405002b3  # sub x5, x0, x5
+    .word 0x41f2d293  # srai x5, x5, 31
     .word 0x0132f713  # andi x14, x5, 19
     .word 0x10412283  # lw x5, 260(x2)
     .word 0x00e285b3  # add x11, x5, x14
@@ -1693,8 +1690,7 @@ x25519_step:
     .word 0x00e2b733  # sltu x14, x5, x14
     .word 0x14012283  # lw x5, 320(x2)
     .word 0x00e282b3  # add x5, x5, x14
-    .word 0x01f2d293  # srli x5, x5, 31
-    .word 0x405002b3  # sub x5, x0, x5
+    .word 0x41f2d293  # srai x5, x5, 31
     .word 0x0132f713  # andi x14, x5, 19
     .word 0x12412283  # lw x5, 292(x2)
     .word 0x00e285b3  # add x11, x5, x14

@@ -1,4 +1,4 @@
-# xtea_encrypt: made by factc 1.0.0 function; 88 words, 64 bytes of stack, profile 1
+# xtea_encrypt: made by factc 1.0.0 function; 87 words, 64 bytes of stack, profile 1
     .option push
     .option norvc
     .option norelax
@@ -40,7 +40,6 @@ xtea_encrypt:
     .word 0x0042ae03  # lw x28, 4(x5)
     .word 0x01c32223  # sw x28, 4(x6)
     # the body
-    .word 0x00000693  # addi x13, x0, 0
     .word 0x9e378737  # lui x14, 0x9e378
     .word 0x9b970713  # addi x14, x14, -1607
     .word 0x01012503  # lw x10, 16(x2)

@@ -1,4 +1,4 @@
-# aes128_decrypt_2: made by factc 1.0.0 function; 740 words, 672 bytes of stack, profile 1
+# aes128_decrypt_2: made by factc 1.0.0 function; 716 words and 21 shared, 672 bytes of stack, profile 1
     .option push
     .option norvc
     .option norelax
@@ -60,10 +60,6 @@ aes128_decrypt_2:
     .word 0x00130313  # addi x6, x6, 1
     .word 0xfe7298e3  # bne x5, x7, -16
     # the body
-    .word 0x00000d13  # addi x26, x0, 0
-    .word 0x00000d93  # addi x27, x0, 0
-    .word 0x002d1493  # slli x9, x26, 2
-    .word 0x002484b3  # add x9, x9, x2
     .word 0x555552b7  # lui x5, 0x55555
     .word 0x55528293  # addi x5, x5, 1365
     .word 0x22512c23  # sw x5, 568(x2)
@@ -765,6 +761,18 @@ aes128_decrypt_2:
     # the caller's x2
     .word 0x04028293  # addi x5, x5, 64
     .cfi_def_cfa 5, 0
+    # on to the tail that functions share
+    jal x0, factc.tail.1
+    .cfi_endproc
+    .size aes128_decrypt_2, . - aes128_decrypt_2
+    .section .text.factc.tail.1, "axG", @progbits, factc.tail.1, comdat
+    .p2align 2
+    .globl factc.tail.1
+    .hidden factc.tail.1
+    .type factc.tail.1, @function
+factc.tail.1:
+    .cfi_startproc
+    .cfi_def_cfa 5, 0
     # all the room, wiped upward
     .word 0x00012023  # sw x0, 0(x2)
     .word 0x00012223  # sw x0, 4(x2)
@@ -791,5 +799,5 @@ aes128_decrypt_2:
     # back
     .word 0x00008067  # jalr x0, 0(x1)
     .cfi_endproc
-    .size aes128_decrypt_2, . - aes128_decrypt_2
+    .size factc.tail.1, . - factc.tail.1
     .option pop

@@ -1,4 +1,4 @@
-# ascon_hash256_short: made by factc 1.0.0 function; 383 words, 384 bytes of stack, profile 1
+# ascon_hash256_short: made by factc 1.0.0 function; 362 words and 21 shared, 384 bytes of stack, profile 1
     .option push
     .option norvc
     .option norelax
@@ -64,7 +64,6 @@ ascon_hash256_short:
     .word 0xfe7298e3  # bne x5, x7, -16
     # the body
     .word 0x00000513  # addi x10, x0, 0
-    .word 0x00000613  # addi x12, x0, 0
     .word 0x00000a13  # addi x20, x0, 0
     .word 0x00000b13  # addi x22, x0, 0
     .word 0x00000493  # addi x9, x0, 0
@@ -409,6 +408,18 @@ ascon_hash256_short:
     # the caller's x2
     .word 0x04028293  # addi x5, x5, 64
     .cfi_def_cfa 5, 0
+    # on to the tail that functions share
+    jal x0, factc.tail.1
+    .cfi_endproc
+    .size ascon_hash256_short, . - ascon_hash256_short
+    .section .text.factc.tail.1, "axG", @progbits, factc.tail.1, comdat
+    .p2align 2
+    .globl factc.tail.1
+    .hidden factc.tail.1
+    .type factc.tail.1, @function
+factc.tail.1:
+    .cfi_startproc
+    .cfi_def_cfa 5, 0
     # all the room, wiped upward
     .word 0x00012023  # sw x0, 0(x2)
     .word 0x00012223  # sw x0, 4(x2)
@@ -435,5 +446,5 @@ ascon_hash256_short:
     # back
     .word 0x00008067  # jalr x0, 0(x1)
     .cfi_endproc
-    .size ascon_hash256_short, . - ascon_hash256_short
+    .size factc.tail.1, . - factc.tail.1
     .option pop

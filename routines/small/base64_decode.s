@@ -1,4 +1,4 @@
-# base64_decode: made by factc 1.0.0 function; 169 words, 176 bytes of stack, profile 1
+# base64_decode: made by factc 1.0.0 function; 147 words and 21 shared, 176 bytes of stack, profile 1
     .option push
     .option norvc
     .option norelax
@@ -50,8 +50,6 @@ base64_decode:
     .word 0xfe7298e3  # bne x5, x7, -16
     # the body
     .word 0x04012503  # lw x10, 64(x2)
-    .word 0x00000713  # addi x14, x0, 0
-    .word 0x00000813  # addi x16, x0, 0
     .word 0x00010a37  # lui x20, 0x00010
     .word 0xf00a0a13  # addi x20, x20, -256
     .word 0x00357293  # andi x5, x10, 3
@@ -181,6 +179,18 @@ base64_decode:
     # the caller's x2
     .word 0x02028293  # addi x5, x5, 32
     .cfi_def_cfa 5, 0
+    # on to the tail that functions share
+    jal x0, factc.tail.1
+    .cfi_endproc
+    .size base64_decode, . - base64_decode
+    .section .text.factc.tail.1, "axG", @progbits, factc.tail.1, comdat
+    .p2align 2
+    .globl factc.tail.1
+    .hidden factc.tail.1
+    .type factc.tail.1, @function
+factc.tail.1:
+    .cfi_startproc
+    .cfi_def_cfa 5, 0
     # all the room, wiped upward
     .word 0x00012023  # sw x0, 0(x2)
     .word 0x00012223  # sw x0, 4(x2)
@@ -207,5 +217,5 @@ base64_decode:
     # back
     .word 0x00008067  # jalr x0, 0(x1)
     .cfi_endproc
-    .size base64_decode, . - base64_decode
+    .size factc.tail.1, . - factc.tail.1
     .option pop

@@ -1,4 +1,4 @@
-# chacha20_block: made by factc 1.0.0 function; 421 words, 224 bytes of stack, profile 1
+# chacha20_block: made by factc 1.0.0 function; 304 words and 21 shared, 224 bytes of stack, profile 1
     .option push
     .option norvc
     .option norelax
@@ -67,7 +67,6 @@ chacha20_block:
     .word 0xfe7298e3  # bne x5, x7, -16
     # the body
     .word 0x02012503  # lw x10, 32(x2)
-    .word 0x00000493  # addi x9, x0, 0
     .word 0x617085b7  # lui x11, 0x61708
     .word 0x86558593  # addi x11, x11, -1947
     .word 0x33206637  # lui x12, 0x33206
@@ -266,148 +265,52 @@ chacha20_block:
     .word 0x61708337  # lui x6, 0x61708
     .word 0x86530313  # addi x6, x6, -1947
     .word 0x006585b3  # add x11, x11, x6
-    .word 0x02b10823  # sb x11, 48(x2)
-    .word 0x0085d293  # srli x5, x11, 8
-    .word 0x025108a3  # sb x5, 49(x2)
-    .word 0x0105d293  # srli x5, x11, 16
-    .word 0x02510923  # sb x5, 50(x2)
-    .word 0x0185d293  # srli x5, x11, 24
-    .word 0x025109a3  # sb x5, 51(x2)
+    .word 0x02b12823  # sw x11, 48(x2)
     .word 0x33206337  # lui x6, 0x33206
     .word 0x46e30313  # addi x6, x6, 1134
     .word 0x006605b3  # add x11, x12, x6
-    .word 0x02b10a23  # sb x11, 52(x2)
-    .word 0x0085d293  # srli x5, x11, 8
-    .word 0x02510aa3  # sb x5, 53(x2)
-    .word 0x0105d293  # srli x5, x11, 16
-    .word 0x02510b23  # sb x5, 54(x2)
-    .word 0x0185d293  # srli x5, x11, 24
-    .word 0x02510ba3  # sb x5, 55(x2)
+    .word 0x02b12a23  # sw x11, 52(x2)
     .word 0x79623337  # lui x6, 0x79623
     .word 0xd3230313  # addi x6, x6, -718
     .word 0x006685b3  # add x11, x13, x6
-    .word 0x02b10c23  # sb x11, 56(x2)
-    .word 0x0085d293  # srli x5, x11, 8
-    .word 0x02510ca3  # sb x5, 57(x2)
-    .word 0x0105d293  # srli x5, x11, 16
-    .word 0x02510d23  # sb x5, 58(x2)
-    .word 0x0185d293  # srli x5, x11, 24
-    .word 0x02510da3  # sb x5, 59(x2)
+    .word 0x02b12c23  # sw x11, 56(x2)
     .word 0x6b206337  # lui x6, 0x6b206
     .word 0x57430313  # addi x6, x6, 1396
     .word 0x006705b3  # add x11, x14, x6
-    .word 0x02b10e23  # sb x11, 60(x2)
-    .word 0x0085d293  # srli x5, x11, 8
-    .word 0x02510ea3  # sb x5, 61(x2)
-    .word 0x0105d293  # srli x5, x11, 16
-    .word 0x02510f23  # sb x5, 62(x2)
-    .word 0x0185d293  # srli x5, x11, 24
-    .word 0x02510fa3  # sb x5, 63(x2)
+    .word 0x02b12e23  # sw x11, 60(x2)
     .word 0x01b787b3  # add x15, x15, x27
-    .word 0x04f10023  # sb x15, 64(x2)
-    .word 0x0087d293  # srli x5, x15, 8
-    .word 0x045100a3  # sb x5, 65(x2)
-    .word 0x0107d293  # srli x5, x15, 16
-    .word 0x04510123  # sb x5, 66(x2)
-    .word 0x0187d293  # srli x5, x15, 24
-    .word 0x045101a3  # sb x5, 67(x2)
+    .word 0x04f12023  # sw x15, 64(x2)
     .word 0x008807b3  # add x15, x16, x8
-    .word 0x04f10223  # sb x15, 68(x2)
-    .word 0x0087d293  # srli x5, x15, 8
-    .word 0x045102a3  # sb x5, 69(x2)
-    .word 0x0107d293  # srli x5, x15, 16
-    .word 0x04510323  # sb x5, 70(x2)
-    .word 0x0187d293  # srli x5, x15, 24
-    .word 0x045103a3  # sb x5, 71(x2)
+    .word 0x04f12223  # sw x15, 68(x2)
     .word 0x07012303  # lw x6, 112(x2)
     .word 0x006887b3  # add x15, x17, x6
-    .word 0x04f10423  # sb x15, 72(x2)
-    .word 0x0087d293  # srli x5, x15, 8
-    .word 0x045104a3  # sb x5, 73(x2)
-    .word 0x0107d293  # srli x5, x15, 16
-    .word 0x04510523  # sb x5, 74(x2)
-    .word 0x0187d293  # srli x5, x15, 24
-    .word 0x045105a3  # sb x5, 75(x2)
+    .word 0x04f12423  # sw x15, 72(x2)
     .word 0x07412303  # lw x6, 116(x2)
     .word 0x006907b3  # add x15, x18, x6
-    .word 0x04f10623  # sb x15, 76(x2)
-    .word 0x0087d293  # srli x5, x15, 8
-    .word 0x045106a3  # sb x5, 77(x2)
-    .word 0x0107d293  # srli x5, x15, 16
-    .word 0x04510723  # sb x5, 78(x2)
-    .word 0x0187d293  # srli x5, x15, 24
-    .word 0x045107a3  # sb x5, 79(x2)
+    .word 0x04f12623  # sw x15, 76(x2)
     .word 0x07812303  # lw x6, 120(x2)
     .word 0x006987b3  # add x15, x19, x6
-    .word 0x04f10823  # sb x15, 80(x2)
-    .word 0x0087d293  # srli x5, x15, 8
-    .word 0x045108a3  # sb x5, 81(x2)
-    .word 0x0107d293  # srli x5, x15, 16
-    .word 0x04510923  # sb x5, 82(x2)
-    .word 0x0187d293  # srli x5, x15, 24
-    .word 0x045109a3  # sb x5, 83(x2)
+    .word 0x04f12823  # sw x15, 80(x2)
     .word 0x07c12303  # lw x6, 124(x2)
     .word 0x006a07b3  # add x15, x20, x6
-    .word 0x04f10a23  # sb x15, 84(x2)
-    .word 0x0087d293  # srli x5, x15, 8
-    .word 0x04510aa3  # sb x5, 85(x2)
-    .word 0x0107d293  # srli x5, x15, 16
-    .word 0x04510b23  # sb x5, 86(x2)
-    .word 0x0187d293  # srli x5, x15, 24
-    .word 0x04510ba3  # sb x5, 87(x2)
+    .word 0x04f12a23  # sw x15, 84(x2)
     .word 0x08012303  # lw x6, 128(x2)
     .word 0x006a87b3  # add x15, x21, x6
-    .word 0x04f10c23  # sb x15, 88(x2)
-    .word 0x0087d293  # srli x5, x15, 8
-    .word 0x04510ca3  # sb x5, 89(x2)
-    .word 0x0107d293  # srli x5, x15, 16
-    .word 0x04510d23  # sb x5, 90(x2)
-    .word 0x0187d293  # srli x5, x15, 24
-    .word 0x04510da3  # sb x5, 91(x2)
+    .word 0x04f12c23  # sw x15, 88(x2)
     .word 0x08412303  # lw x6, 132(x2)
     .word 0x006b07b3  # add x15, x22, x6
-    .word 0x04f10e23  # sb x15, 92(x2)
-    .word 0x0087d293  # srli x5, x15, 8
-    .word 0x04510ea3  # sb x5, 93(x2)
-    .word 0x0107d293  # srli x5, x15, 16
-    .word 0x04510f23  # sb x5, 94(x2)
-    .word 0x0187d293  # srli x5, x15, 24
-    .word 0x04510fa3  # sb x5, 95(x2)
+    .word 0x04f12e23  # sw x15, 92(x2)
     .word 0x00ab87b3  # add x15, x23, x10
-    .word 0x06f10023  # sb x15, 96(x2)
-    .word 0x0087d293  # srli x5, x15, 8
-    .word 0x065100a3  # sb x5, 97(x2)
-    .word 0x0107d293  # srli x5, x15, 16
-    .word 0x06510123  # sb x5, 98(x2)
-    .word 0x0187d293  # srli x5, x15, 24
-    .word 0x065101a3  # sb x5, 99(x2)
+    .word 0x06f12023  # sw x15, 96(x2)
     .word 0x08812303  # lw x6, 136(x2)
     .word 0x006c07b3  # add x15, x24, x6
-    .word 0x06f10223  # sb x15, 100(x2)
-    .word 0x0087d293  # srli x5, x15, 8
-    .word 0x065102a3  # sb x5, 101(x2)
-    .word 0x0107d293  # srli x5, x15, 16
-    .word 0x06510323  # sb x5, 102(x2)
-    .word 0x0187d293  # srli x5, x15, 24
-    .word 0x065103a3  # sb x5, 103(x2)
+    .word 0x06f12223  # sw x15, 100(x2)
     .word 0x08c12303  # lw x6, 140(x2)
     .word 0x006c87b3  # add x15, x25, x6
-    .word 0x06f10423  # sb x15, 104(x2)
-    .word 0x0087d293  # srli x5, x15, 8
-    .word 0x065104a3  # sb x5, 105(x2)
-    .word 0x0107d293  # srli x5, x15, 16
-    .word 0x06510523  # sb x5, 106(x2)
-    .word 0x0187d293  # srli x5, x15, 24
-    .word 0x065105a3  # sb x5, 107(x2)
+    .word 0x06f12423  # sw x15, 104(x2)
     .word 0x09012303  # lw x6, 144(x2)
     .word 0x006d07b3  # add x15, x26, x6
-    .word 0x06f10623  # sb x15, 108(x2)
-    .word 0x0087d293  # srli x5, x15, 8
-    .word 0x065106a3  # sb x5, 109(x2)
-    .word 0x0107d293  # srli x5, x15, 16
-    .word 0x06510723  # sb x5, 110(x2)
-    .word 0x0187d293  # srli x5, x15, 24
-    .word 0x065107a3  # sb x5, 111(x2)
+    .word 0x06f12623  # sw x15, 108(x2)
     # the result
     .word 0x00000513  # addi x10, x0, 0
     # parameter 3: the array, back
@@ -449,6 +352,18 @@ chacha20_block:
     # the caller's x2
     .word 0x04028293  # addi x5, x5, 64
     .cfi_def_cfa 5, 0
+    # on to the tail that functions share
+    jal x0, factc.tail.1
+    .cfi_endproc
+    .size chacha20_block, . - chacha20_block
+    .section .text.factc.tail.1, "axG", @progbits, factc.tail.1, comdat
+    .p2align 2
+    .globl factc.tail.1
+    .hidden factc.tail.1
+    .type factc.tail.1, @function
+factc.tail.1:
+    .cfi_startproc
+    .cfi_def_cfa 5, 0
     # all the room, wiped upward
     .word 0x00012023  # sw x0, 0(x2)
     .word 0x00012223  # sw x0, 4(x2)
@@ -475,5 +390,5 @@ chacha20_block:
     # back
     .word 0x00008067  # jalr x0, 0(x1)
     .cfi_endproc
-    .size chacha20_block, . - chacha20_block
+    .size factc.tail.1, . - factc.tail.1
     .option pop

@@ -1,4 +1,4 @@
-# copy_if_32: made by factc 1.0.0 function; 70 words, 96 bytes of stack, profile 1
+# copy_if_32: made by factc 1.0.0 function; 48 words and 21 shared, 96 bytes of stack, profile 1
     .option push
     .option norvc
     .option norelax
@@ -43,8 +43,6 @@ copy_if_32:
     .word 0xfe7298e3  # bne x5, x7, -16
     # the body
     .word 0x00012503  # lw x10, 0(x2)
-    .word 0x00000613  # addi x12, x0, 0
-    .word 0x002607b3  # add x15, x12, x2
     .word 0x40a005b3  # sub x11, x0, x10
     .word 0xfff00613  # addi x12, x0, -1
     .word 0x00160613  # addi x12, x12, 1
@@ -74,6 +72,18 @@ copy_if_32:
     # the caller's x2
     .word 0x01028293  # addi x5, x5, 16
     .cfi_def_cfa 5, 0
+    # on to the tail that functions share
+    jal x0, factc.tail.1
+    .cfi_endproc
+    .size copy_if_32, . - copy_if_32
+    .section .text.factc.tail.1, "axG", @progbits, factc.tail.1, comdat
+    .p2align 2
+    .globl factc.tail.1
+    .hidden factc.tail.1
+    .type factc.tail.1, @function
+factc.tail.1:
+    .cfi_startproc
+    .cfi_def_cfa 5, 0
     # all the room, wiped upward
     .word 0x00012023  # sw x0, 0(x2)
     .word 0x00012223  # sw x0, 4(x2)
@@ -100,5 +110,5 @@ copy_if_32:
     # back
     .word 0x00008067  # jalr x0, 0(x1)
     .cfi_endproc
-    .size copy_if_32, . - copy_if_32
+    .size factc.tail.1, . - factc.tail.1
     .option pop

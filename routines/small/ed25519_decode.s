@@ -1,4 +1,4 @@
-# ed25519_decode: made by factc 1.0.0 function; 914 words, 1120 bytes of stack, profile 1
+# ed25519_decode: made by factc 1.0.0 function; 887 words and 21 shared, 1120 bytes of stack, profile 1
     .option push
     .option norvc
     .option norelax
@@ -58,12 +58,6 @@ ed25519_decode:
     .word 0xfe7298e3  # bne x5, x7, -16
     # the body
     .word 0x00000713  # addi x14, x0, 0
-    .word 0x00000893  # addi x17, x0, 0
-    .word 0x00000b13  # addi x22, x0, 0
-    .word 0x00289d13  # slli x26, x17, 2
-    .word 0x002d0d33  # add x26, x26, x2
-    .word 0x002b1d93  # slli x27, x22, 2
-    .word 0x002d8db3  # add x27, x27, x2
     .word 0x80000c37  # lui x24, 0x80000
     .word 0xfffc0c13  # addi x24, x24, -1
     .word 0x06000313  # addi x6, x0, 96
@@ -304,7 +298,7 @@ ed25519_decode:
     .word 0x40012283  # lw x5, 1024(x2)
     .word 0x005332b3  # sltu x5, x6, x5
     .word 0x00029463  # bne x5, x0, 8
-    .word 0x72c0006f  # jal x0, 1836
+    .word 0x7280006f  # jal x0, 1832
     .word 0x34612423  # sw x6, 840(x2)
     .word 0x00130313  # addi x6, x6, 1
     .word 0x3e612e23  # sw x6, 1020(x2)
@@ -599,7 +593,7 @@ ed25519_decode:
     .word 0x0662a023  # sw x6, 96(x5)
     .word 0xff9b0293  # addi x5, x22, -7
     .word 0xfc029ee3  # bne x5, x0, -36
-    .word 0x28c0006f  # jal x0, 652
+    .word 0x2880006f  # jal x0, 648
     .word 0x00200313  # addi x6, x0, 2
     .word 0x12689663  # bne x17, x6, 300
     .word 0x00000a13  # addi x20, x0, 0
@@ -675,7 +669,7 @@ ed25519_decode:
     .word 0x0662a023  # sw x6, 96(x5)
     .word 0xff9b0293  # addi x5, x22, -7
     .word 0xfc029ee3  # bne x5, x0, -36
-    .word 0x15c0006f  # jal x0, 348
+    .word 0x1580006f  # jal x0, 344
     .word 0x00300313  # addi x6, x0, 3
     .word 0x0c689063  # bne x17, x6, 192
     .word 0x00000a13  # addi x20, x0, 0
@@ -724,7 +718,7 @@ ed25519_decode:
     .word 0x014aba33  # sltu x20, x21, x20
     .word 0xff9b0293  # addi x5, x22, -7
     .word 0xfc029ae3  # bne x5, x0, -44
-    .word 0x0980006f  # jal x0, 152
+    .word 0x0940006f  # jal x0, 148
     .word 0x01300a13  # addi x20, x0, 19
     .word 0xfff00b13  # addi x22, x0, -1
     .word 0x001b0b13  # addi x22, x22, 1
@@ -740,8 +734,7 @@ ed25519_decode:
     .word 0xfc029ce3  # bne x5, x0, -40
     .word 0x07cca283  # lw x5, 124(x25)
     .word 0x014282b3  # add x5, x5, x20
-    .word 0x01f2d293  # srli x5, x5, 31
-    .word 0x405002b3  # sub x5, x0, x5
+    .word 0x41f2d293  # srai x5, x5, 31
     .word 0x0132fa13  # andi x20, x5, 19
     .word 0xfff00b13  # addi x22, x0, -1
     .word 0x001b0b13  # addi x22, x22, 1
@@ -762,7 +755,7 @@ ed25519_decode:
     .word 0x07cca283  # lw x5, 124(x25)
     .word 0x0182f2b3  # and x5, x5, x24
     .word 0x065cae23  # sw x5, 124(x25)
-    .word 0x8c9ff06f  # jal x0, -1848
+    .word 0x8cdff06f  # jal x0, -1844
     .word 0x00000a13  # addi x20, x0, 0
     .word 0x00000a93  # addi x21, x0, 0
     .word 0xfff00b13  # addi x22, x0, -1
@@ -942,6 +935,18 @@ ed25519_decode:
     # the caller's x2
     .word 0x04028293  # addi x5, x5, 64
     .cfi_def_cfa 5, 0
+    # on to the tail that functions share
+    jal x0, factc.tail.1
+    .cfi_endproc
+    .size ed25519_decode, . - ed25519_decode
+    .section .text.factc.tail.1, "axG", @progbits, factc.tail.1, comdat
+    .p2align 2
+    .globl factc.tail.1
+    .hidden factc.tail.1
+    .type factc.tail.1, @function
+factc.tail.1:
+    .cfi_startproc
+    .cfi_def_cfa 5, 0
     # all the room, wiped upward
     .word 0x00012023  # sw x0, 0(x2)
     .word 0x00012223  # sw x0, 4(x2)
@@ -968,5 +973,5 @@ ed25519_decode:
     # back
     .word 0x00008067  # jalr x0, 0(x1)
     .cfi_endproc
-    .size ed25519_decode, . - ed25519_decode
+    .size factc.tail.1, . - factc.tail.1
     .option pop

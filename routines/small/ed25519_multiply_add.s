@@ -1,4 +1,4 @@
-# ed25519_multiply_add: made by factc 1.0.0 function; 628 words, 1344 bytes of stack, profile 1
+# ed25519_multiply_add: made by factc 1.0.0 function; 599 words and 21 shared, 1344 bytes of stack, profile 1
     .option push
     .option norvc
     .option norelax
@@ -69,15 +69,6 @@ ed25519_multiply_add:
     .word 0x00130313  # addi x6, x6, 1
     .word 0xfe7298e3  # bne x5, x7, -16
     # the body
-    .word 0x00000593  # addi x11, x0, 0
-    .word 0x00000893  # addi x17, x0, 0
-    .word 0x00000a13  # addi x20, x0, 0
-    .word 0x00259c93  # slli x25, x11, 2
-    .word 0x002c8cb3  # add x25, x25, x2
-    .word 0x00289d13  # slli x26, x17, 2
-    .word 0x002d0d33  # add x26, x26, x2
-    .word 0x002a1d93  # slli x27, x20, 2
-    .word 0x002d8db3  # add x27, x27, x2
     .word 0x5cf5dab7  # lui x21, 0x5cf5d
     .word 0x3eda8a93  # addi x21, x21, 1005
     .word 0x58126b37  # lui x22, 0x58126
@@ -652,6 +643,18 @@ ed25519_multiply_add:
     # the caller's x2
     .word 0x04028293  # addi x5, x5, 64
     .cfi_def_cfa 5, 0
+    # on to the tail that functions share
+    jal x0, factc.tail.1
+    .cfi_endproc
+    .size ed25519_multiply_add, . - ed25519_multiply_add
+    .section .text.factc.tail.1, "axG", @progbits, factc.tail.1, comdat
+    .p2align 2
+    .globl factc.tail.1
+    .hidden factc.tail.1
+    .type factc.tail.1, @function
+factc.tail.1:
+    .cfi_startproc
+    .cfi_def_cfa 5, 0
     # all the room, wiped upward
     .word 0x00012023  # sw x0, 0(x2)
     .word 0x00012223  # sw x0, 4(x2)
@@ -678,5 +681,5 @@ ed25519_multiply_add:
     # back
     .word 0x00008067  # jalr x0, 0(x1)
     .cfi_endproc
-    .size ed25519_multiply_add, . - ed25519_multiply_add
+    .size factc.tail.1, . - factc.tail.1
     .option pop

@@ -1,4 +1,4 @@
-# ed25519_point_add: made by factc 1.0.0 function; 528 words, 1216 bytes of stack, profile 1
+# ed25519_point_add: made by factc 1.0.0 function; 500 words and 21 shared, 1216 bytes of stack, profile 1
     .option push
     .option norvc
     .option norelax
@@ -55,13 +55,6 @@ ed25519_point_add:
     .word 0x00430313  # addi x6, x6, 4
     .word 0xfe7298e3  # bne x5, x7, -16
     # the body
-    .word 0x00000513  # addi x10, x0, 0
-    .word 0x00000593  # addi x11, x0, 0
-    .word 0x00000893  # addi x17, x0, 0
-    .word 0x00251b13  # slli x22, x10, 2
-    .word 0x002b0b33  # add x22, x22, x2
-    .word 0x00289c93  # slli x25, x17, 2
-    .word 0x002c8cb3  # add x25, x25, x2
     .word 0x80000ab7  # lui x21, 0x80000
     .word 0xfffa8a93  # addi x21, x21, -1
     .word 0x18000313  # addi x6, x0, 384
@@ -341,7 +334,7 @@ ed25519_point_add:
     .word 0x1862a023  # sw x6, 384(x5)
     .word 0xff988293  # addi x5, x17, -7
     .word 0xfc029ee3  # bne x5, x0, -36
-    .word 0x28c0006f  # jal x0, 652
+    .word 0x2880006f  # jal x0, 648
     .word 0x00100313  # addi x6, x0, 1
     .word 0x12651663  # bne x10, x6, 300
     .word 0x00000a13  # addi x20, x0, 0
@@ -417,7 +410,7 @@ ed25519_point_add:
     .word 0x1862a023  # sw x6, 384(x5)
     .word 0xff988293  # addi x5, x17, -7
     .word 0xfc029ee3  # bne x5, x0, -36
-    .word 0x15c0006f  # jal x0, 348
+    .word 0x1580006f  # jal x0, 344
     .word 0x00200313  # addi x6, x0, 2
     .word 0x0c651063  # bne x10, x6, 192
     .word 0x00000a13  # addi x20, x0, 0
@@ -466,7 +459,7 @@ ed25519_point_add:
     .word 0x01483a33  # sltu x20, x16, x20
     .word 0xff988293  # addi x5, x17, -7
     .word 0xfc029ae3  # bne x5, x0, -44
-    .word 0x0980006f  # jal x0, 152
+    .word 0x0940006f  # jal x0, 148
     .word 0x01300a13  # addi x20, x0, 19
     .word 0xfff00893  # addi x17, x0, -1
     .word 0x00188893  # addi x17, x17, 1
@@ -482,8 +475,7 @@ ed25519_point_add:
     .word 0xfc029ce3  # bne x5, x0, -40
     .word 0x19cba283  # lw x5, 412(x23)
     .word 0x014282b3  # add x5, x5, x20
-    .word 0x01f2d293  # srli x5, x5, 31
-    .word 0x405002b3  # sub x5, x0, x5
+    .word 0x41f2d293  # srai x5, x5, 31
     .word 0x0132fa13  # andi x20, x5, 19
     .word 0xfff00893  # addi x17, x0, -1
     .word 0x00188893  # addi x17, x17, 1
@@ -505,7 +497,7 @@ ed25519_point_add:
     .word 0x0152f2b3  # and x5, x5, x21
     .word 0x185bae23  # sw x5, 412(x23)
     .word 0xfeb58293  # addi x5, x11, -21
-    .word 0xb0029ee3  # bne x5, x0, -1252
+    .word 0xb20290e3  # bne x5, x0, -1248
     .word 0xfff00513  # addi x10, x0, -1
     .word 0x00150513  # addi x10, x10, 1
     .word 0x00251b13  # slli x22, x10, 2
@@ -547,6 +539,18 @@ ed25519_point_add:
     # the caller's x2
     .word 0x03028293  # addi x5, x5, 48
     .cfi_def_cfa 5, 0
+    # on to the tail that functions share
+    jal x0, factc.tail.1
+    .cfi_endproc
+    .size ed25519_point_add, . - ed25519_point_add
+    .section .text.factc.tail.1, "axG", @progbits, factc.tail.1, comdat
+    .p2align 2
+    .globl factc.tail.1
+    .hidden factc.tail.1
+    .type factc.tail.1, @function
+factc.tail.1:
+    .cfi_startproc
+    .cfi_def_cfa 5, 0
     # all the room, wiped upward
     .word 0x00012023  # sw x0, 0(x2)
     .word 0x00012223  # sw x0, 4(x2)
@@ -573,5 +577,5 @@ ed25519_point_add:
     # back
     .word 0x00008067  # jalr x0, 0(x1)
     .cfi_endproc
-    .size ed25519_point_add, . - ed25519_point_add
+    .size factc.tail.1, . - factc.tail.1
     .option pop

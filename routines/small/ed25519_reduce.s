@@ -1,4 +1,4 @@
-# ed25519_reduce: made by factc 1.0.0 function; 486 words, 736 bytes of stack, profile 1
+# ed25519_reduce: made by factc 1.0.0 function; 458 words and 21 shared, 736 bytes of stack, profile 1
     .option push
     .option norvc
     .option norelax
@@ -51,14 +51,6 @@ ed25519_reduce:
     .word 0x00130313  # addi x6, x6, 1
     .word 0xfe7298e3  # bne x5, x7, -16
     # the body
-    .word 0x00000513  # addi x10, x0, 0
-    .word 0x00000713  # addi x14, x0, 0
-    .word 0x00000793  # addi x15, x0, 0
-    .word 0x00000a93  # addi x21, x0, 0
-    .word 0x00271d13  # slli x26, x14, 2
-    .word 0x002d0d33  # add x26, x26, x2
-    .word 0x002a9d93  # slli x27, x21, 2
-    .word 0x002d8db3  # add x27, x27, x2
     .word 0x5cf5db37  # lui x22, 0x5cf5d
     .word 0x3edb0b13  # addi x22, x22, 1005
     .word 0x58126bb7  # lui x23, 0x58126
@@ -510,6 +502,18 @@ ed25519_reduce:
     # the caller's x2
     .word 0x04028293  # addi x5, x5, 64
     .cfi_def_cfa 5, 0
+    # on to the tail that functions share
+    jal x0, factc.tail.1
+    .cfi_endproc
+    .size ed25519_reduce, . - ed25519_reduce
+    .section .text.factc.tail.1, "axG", @progbits, factc.tail.1, comdat
+    .p2align 2
+    .globl factc.tail.1
+    .hidden factc.tail.1
+    .type factc.tail.1, @function
+factc.tail.1:
+    .cfi_startproc
+    .cfi_def_cfa 5, 0
     # all the room, wiped upward
     .word 0x00012023  # sw x0, 0(x2)
     .word 0x00012223  # sw x0, 4(x2)
@@ -536,5 +540,5 @@ ed25519_reduce:
     # back
     .word 0x00008067  # jalr x0, 0(x1)
     .cfi_endproc
-    .size ed25519_reduce, . - ed25519_reduce
+    .size factc.tail.1, . - factc.tail.1
     .option pop

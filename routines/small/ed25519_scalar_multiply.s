@@ -1,4 +1,4 @@
-# ed25519_scalar_multiply: made by factc 1.0.0 function; 1629 words, 2304 bytes of stack, profile 1
+# ed25519_scalar_multiply: made by factc 1.0.0 function; 1604 words and 21 shared, 2304 bytes of stack, profile 1
     .option push
     .option norvc
     .option norelax
@@ -76,10 +76,6 @@ ed25519_scalar_multiply:
     .word 0xfe7298e3  # bne x5, x7, -16
     # the body
     .word 0x00000613  # addi x12, x0, 0
-    .word 0x00000693  # addi x13, x0, 0
-    .word 0x00000b13  # addi x22, x0, 0
-    .word 0x002b1d93  # slli x27, x22, 2
-    .word 0x002d8db3  # add x27, x27, x2
     .word 0x80000cb7  # lui x25, 0x80000
     .word 0xfffc8c93  # addi x25, x25, -1
     .word 0x000012b7  # lui x5, 0x00001
@@ -359,7 +355,7 @@ ed25519_scalar_multiply:
     .word 0x89c2a283  # lw x5, -1892(x5)
     .word 0x005332b3  # sltu x5, x6, x5
     .word 0x00029463  # bne x5, x0, 8
-    .word 0x3780106f  # jal x0, 4984
+    .word 0x3740106f  # jal x0, 4980
     .word 0x78612a23  # sw x6, 1940(x2)
     .word 0x00130313  # addi x6, x6, 1
     .word 0x00001e37  # lui x28, 0x00001
@@ -1401,7 +1397,7 @@ ed25519_scalar_multiply:
     .word 0x15433313  # sltiu x6, x6, 340
     .word 0x00133313  # sltiu x6, x6, 1
     .word 0x0062e2b3  # or x5, x5, x6
-    .word 0x0c028c63  # beq x5, x0, 216
+    .word 0x0c028a63  # beq x5, x0, 212
     .word 0x79412283  # lw x5, 1940(x2)
     .word 0x0012b293  # sltiu x5, x5, 1
     .word 0x04800313  # addi x6, x0, 72
@@ -1429,8 +1425,7 @@ ed25519_scalar_multiply:
     .word 0x002282b3  # add x5, x5, x2
     .word 0x0bc2a283  # lw x5, 188(x5)
     .word 0x014282b3  # add x5, x5, x20
-    .word 0x01f2d293  # srli x5, x5, 31
-    .word 0x405002b3  # sub x5, x0, x5
+    .word 0x41f2d293  # srai x5, x5, 31
     .word 0x0132fa13  # andi x20, x5, 19
     .word 0xfff00b13  # addi x22, x0, -1
     .word 0x001b0b13  # addi x22, x22, 1
@@ -1604,7 +1599,7 @@ ed25519_scalar_multiply:
     .word 0xfa0290e3  # bne x5, x0, -96
     .word 0xfffc0c13  # addi x24, x24, -1
     .word 0x0040006f  # jal x0, 4
-    .word 0xc6dfe06f  # jal x0, -5012
+    .word 0xc71fe06f  # jal x0, -5008
     .word 0x79012283  # lw x5, 1936(x2)
     .word 0x0012b293  # sltiu x5, x5, 1
     .word 0x00001e37  # lui x28, 0x00001
@@ -1657,6 +1652,18 @@ ed25519_scalar_multiply:
     # the caller's x2
     .word 0x04028293  # addi x5, x5, 64
     .cfi_def_cfa 5, 0
+    # on to the tail that functions share
+    jal x0, factc.tail.1
+    .cfi_endproc
+    .size ed25519_scalar_multiply, . - ed25519_scalar_multiply
+    .section .text.factc.tail.1, "axG", @progbits, factc.tail.1, comdat
+    .p2align 2
+    .globl factc.tail.1
+    .hidden factc.tail.1
+    .type factc.tail.1, @function
+factc.tail.1:
+    .cfi_startproc
+    .cfi_def_cfa 5, 0
     # all the room, wiped upward
     .word 0x00012023  # sw x0, 0(x2)
     .word 0x00012223  # sw x0, 4(x2)
@@ -1683,5 +1690,5 @@ ed25519_scalar_multiply:
     # back
     .word 0x00008067  # jalr x0, 0(x1)
     .cfi_endproc
-    .size ed25519_scalar_multiply, . - ed25519_scalar_multiply
+    .size factc.tail.1, . - factc.tail.1
     .option pop

@@ -1,4 +1,4 @@
-# f25519_add: made by factc 1.0.0 function; 197 words, 672 bytes of stack, profile 1
+# f25519_add: made by factc 1.0.0 function; 173 words and 21 shared, 672 bytes of stack, profile 1
     .option push
     .option norvc
     .option norelax
@@ -39,9 +39,6 @@ f25519_add:
     .word 0x00430313  # addi x6, x6, 4
     .word 0xfe7298e3  # bne x5, x7, -16
     # the body
-    .word 0x00000513  # addi x10, x0, 0
-    .word 0x00251713  # slli x14, x10, 2
-    .word 0x00270733  # add x14, x14, x2
     .word 0x06000313  # addi x6, x0, 96
     .word 0x00230333  # add x6, x6, x2
     .word 0x20000393  # addi x7, x0, 512
@@ -149,8 +146,7 @@ f25519_add:
     .word 0xfc029ce3  # bne x5, x0, -40
     .word 0x0bc12283  # lw x5, 188(x2)
     .word 0x00d282b3  # add x5, x5, x13
-    .word 0x01f2d293  # srli x5, x5, 31
-    .word 0x405002b3  # sub x5, x0, x5
+    .word 0x41f2d293  # srai x5, x5, 31
     .word 0x0132f693  # andi x13, x5, 19
     .word 0xfff00513  # addi x10, x0, -1
     .word 0x00150513  # addi x10, x10, 1
@@ -200,6 +196,18 @@ f25519_add:
     # the caller's x2
     .word 0x01028293  # addi x5, x5, 16
     .cfi_def_cfa 5, 0
+    # on to the tail that functions share
+    jal x0, factc.tail.1
+    .cfi_endproc
+    .size f25519_add, . - f25519_add
+    .section .text.factc.tail.1, "axG", @progbits, factc.tail.1, comdat
+    .p2align 2
+    .globl factc.tail.1
+    .hidden factc.tail.1
+    .type factc.tail.1, @function
+factc.tail.1:
+    .cfi_startproc
+    .cfi_def_cfa 5, 0
     # all the room, wiped upward
     .word 0x00012023  # sw x0, 0(x2)
     .word 0x00012223  # sw x0, 4(x2)
@@ -226,5 +234,5 @@ f25519_add:
     # back
     .word 0x00008067  # jalr x0, 0(x1)
     .cfi_endproc
-    .size f25519_add, . - f25519_add
+    .size factc.tail.1, . - factc.tail.1
     .option pop

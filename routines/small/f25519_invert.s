@@ -1,4 +1,4 @@
-# f25519_invert: made by factc 1.0.0 function; 468 words, 848 bytes of stack, profile 1
+# f25519_invert: made by factc 1.0.0 function; 440 words and 21 shared, 848 bytes of stack, profile 1
     .option push
     .option norvc
     .option norelax
@@ -47,14 +47,7 @@ f25519_invert:
     .word 0x00430313  # addi x6, x6, 4
     .word 0xfe7298e3  # bne x5, x7, -16
     # the body
-    .word 0x00000513  # addi x10, x0, 0
     .word 0x00000713  # addi x14, x0, 0
-    .word 0x00000893  # addi x17, x0, 0
-    .word 0x00000b13  # addi x22, x0, 0
-    .word 0x00289c93  # slli x25, x17, 2
-    .word 0x002c8cb3  # add x25, x25, x2
-    .word 0x002b1d13  # slli x26, x22, 2
-    .word 0x002d0d33  # add x26, x26, x2
     .word 0x80000c37  # lui x24, 0x80000
     .word 0xfffc0c13  # addi x24, x24, -1
     .word 0x04000313  # addi x6, x0, 64
@@ -420,8 +413,7 @@ f25519_invert:
     .word 0xfc029ce3  # bne x5, x0, -40
     .word 0x0fc12283  # lw x5, 252(x2)
     .word 0x014282b3  # add x5, x5, x20
-    .word 0x01f2d293  # srli x5, x5, 31
-    .word 0x405002b3  # sub x5, x0, x5
+    .word 0x41f2d293  # srai x5, x5, 31
     .word 0x0132fa13  # andi x20, x5, 19
     .word 0xfff00b13  # addi x22, x0, -1
     .word 0x001b0b13  # addi x22, x22, 1
@@ -488,6 +480,18 @@ f25519_invert:
     # the caller's x2
     .word 0x03028293  # addi x5, x5, 48
     .cfi_def_cfa 5, 0
+    # on to the tail that functions share
+    jal x0, factc.tail.1
+    .cfi_endproc
+    .size f25519_invert, . - f25519_invert
+    .section .text.factc.tail.1, "axG", @progbits, factc.tail.1, comdat
+    .p2align 2
+    .globl factc.tail.1
+    .hidden factc.tail.1
+    .type factc.tail.1, @function
+factc.tail.1:
+    .cfi_startproc
+    .cfi_def_cfa 5, 0
     # all the room, wiped upward
     .word 0x00012023  # sw x0, 0(x2)
     .word 0x00012223  # sw x0, 4(x2)
@@ -514,5 +518,5 @@ f25519_invert:
     # back
     .word 0x00008067  # jalr x0, 0(x1)
     .cfi_endproc
-    .size f25519_invert, . - f25519_invert
+    .size factc.tail.1, . - factc.tail.1
     .option pop

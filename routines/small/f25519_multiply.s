@@ -1,4 +1,4 @@
-# f25519_multiply: made by factc 1.0.0 function; 268 words, 752 bytes of stack, profile 1
+# f25519_multiply: made by factc 1.0.0 function; 241 words and 21 shared, 752 bytes of stack, profile 1
     .option push
     .option norvc
     .option norelax
@@ -41,12 +41,6 @@ f25519_multiply:
     .word 0x00430313  # addi x6, x6, 4
     .word 0xfe7298e3  # bne x5, x7, -16
     # the body
-    .word 0x00000513  # addi x10, x0, 0
-    .word 0x00000693  # addi x13, x0, 0
-    .word 0x00251893  # slli x17, x10, 2
-    .word 0x002888b3  # add x17, x17, x2
-    .word 0x00269913  # slli x18, x13, 2
-    .word 0x00290933  # add x18, x18, x2
     .word 0x06000313  # addi x6, x0, 96
     .word 0x00230333  # add x6, x6, x2
     .word 0x20000393  # addi x7, x0, 512
@@ -220,8 +214,7 @@ f25519_multiply:
     .word 0xfc029ce3  # bne x5, x0, -40
     .word 0x0bc12283  # lw x5, 188(x2)
     .word 0x010282b3  # add x5, x5, x16
-    .word 0x01f2d293  # srli x5, x5, 31
-    .word 0x405002b3  # sub x5, x0, x5
+    .word 0x41f2d293  # srai x5, x5, 31
     .word 0x0132f813  # andi x16, x5, 19
     .word 0xfff00693  # addi x13, x0, -1
     .word 0x00168693  # addi x13, x13, 1
@@ -273,6 +266,18 @@ f25519_multiply:
     # the caller's x2
     .word 0x01028293  # addi x5, x5, 16
     .cfi_def_cfa 5, 0
+    # on to the tail that functions share
+    jal x0, factc.tail.1
+    .cfi_endproc
+    .size f25519_multiply, . - f25519_multiply
+    .section .text.factc.tail.1, "axG", @progbits, factc.tail.1, comdat
+    .p2align 2
+    .globl factc.tail.1
+    .hidden factc.tail.1
+    .type factc.tail.1, @function
+factc.tail.1:
+    .cfi_startproc
+    .cfi_def_cfa 5, 0
     # all the room, wiped upward
     .word 0x00012023  # sw x0, 0(x2)
     .word 0x00012223  # sw x0, 4(x2)
@@ -299,5 +304,5 @@ f25519_multiply:
     # back
     .word 0x00008067  # jalr x0, 0(x1)
     .cfi_endproc
-    .size f25519_multiply, . - f25519_multiply
+    .size factc.tail.1, . - factc.tail.1
     .option pop

@@ -1,4 +1,4 @@
-# f25519_subtract: made by factc 1.0.0 function; 186 words, 672 bytes of stack, profile 1
+# f25519_subtract: made by factc 1.0.0 function; 162 words and 21 shared, 672 bytes of stack, profile 1
     .option push
     .option norvc
     .option norelax
@@ -39,9 +39,6 @@ f25519_subtract:
     .word 0x00430313  # addi x6, x6, 4
     .word 0xfe7298e3  # bne x5, x7, -16
     # the body
-    .word 0x00000613  # addi x12, x0, 0
-    .word 0x00261813  # slli x16, x12, 2
-    .word 0x00280833  # add x16, x16, x2
     .word 0x06000313  # addi x6, x0, 96
     .word 0x00230333  # add x6, x6, x2
     .word 0x20000393  # addi x7, x0, 512
@@ -147,8 +144,7 @@ f25519_subtract:
     .word 0xfe0292e3  # bne x5, x0, -28
     .word 0x07c12283  # lw x5, 124(x2)
     .word 0x00f282b3  # add x5, x5, x15
-    .word 0x01f2d293  # srli x5, x5, 31
-    .word 0x405002b3  # sub x5, x0, x5
+    .word 0x41f2d293  # srai x5, x5, 31
     .word 0x0132f793  # andi x15, x5, 19
     .word 0xfff00613  # addi x12, x0, -1
     .word 0x00160613  # addi x12, x12, 1
@@ -189,6 +185,18 @@ f25519_subtract:
     # the caller's x2
     .word 0x01028293  # addi x5, x5, 16
     .cfi_def_cfa 5, 0
+    # on to the tail that functions share
+    jal x0, factc.tail.1
+    .cfi_endproc
+    .size f25519_subtract, . - f25519_subtract
+    .section .text.factc.tail.1, "axG", @progbits, factc.tail.1, comdat
+    .p2align 2
+    .globl factc.tail.1
+    .hidden factc.tail.1
+    .type factc.tail.1, @function
+factc.tail.1:
+    .cfi_startproc
+    .cfi_def_cfa 5, 0
     # all the room, wiped upward
     .word 0x00012023  # sw x0, 0(x2)
     .word 0x00012223  # sw x0, 4(x2)
@@ -215,5 +223,5 @@ f25519_subtract:
     # back
     .word 0x00008067  # jalr x0, 0(x1)
     .cfi_endproc
-    .size f25519_subtract, . - f25519_subtract
+    .size factc.tail.1, . - factc.tail.1
     .option pop

@@ -1,4 +1,4 @@
-# hex_decode: made by factc 1.0.0 function; 93 words, 128 bytes of stack, profile 1
+# hex_decode: made by factc 1.0.0 function; 71 words and 21 shared, 128 bytes of stack, profile 1
     .option push
     .option norvc
     .option norelax
@@ -40,8 +40,6 @@ hex_decode:
     .word 0x00130313  # addi x6, x6, 1
     .word 0xfe7298e3  # bne x5, x7, -16
     # the body
-    .word 0x00000613  # addi x12, x0, 0
-    .word 0x002608b3  # add x17, x12, x2
     .word 0x00100513  # addi x10, x0, 1
     .word 0x00000593  # addi x11, x0, 0
     .word 0xfff00613  # addi x12, x0, -1
@@ -98,6 +96,18 @@ hex_decode:
     # the caller's x2
     .word 0x01028293  # addi x5, x5, 16
     .cfi_def_cfa 5, 0
+    # on to the tail that functions share
+    jal x0, factc.tail.1
+    .cfi_endproc
+    .size hex_decode, . - hex_decode
+    .section .text.factc.tail.1, "axG", @progbits, factc.tail.1, comdat
+    .p2align 2
+    .globl factc.tail.1
+    .hidden factc.tail.1
+    .type factc.tail.1, @function
+factc.tail.1:
+    .cfi_startproc
+    .cfi_def_cfa 5, 0
     # all the room, wiped upward
     .word 0x00012023  # sw x0, 0(x2)
     .word 0x00012223  # sw x0, 4(x2)
@@ -124,5 +134,5 @@ hex_decode:
     # back
     .word 0x00008067  # jalr x0, 0(x1)
     .cfi_endproc
-    .size hex_decode, . - hex_decode
+    .size factc.tail.1, . - factc.tail.1
     .option pop

@@ -1,4 +1,4 @@
-# hex_encode: made by factc 1.0.0 function; 107 words, 144 bytes of stack, profile 1
+# hex_encode: made by factc 1.0.0 function; 86 words and 21 shared, 144 bytes of stack, profile 1
     .option push
     .option norvc
     .option norelax
@@ -48,7 +48,6 @@ hex_encode:
     .word 0x00130313  # addi x6, x6, 1
     .word 0xfe7298e3  # bne x5, x7, -16
     # the body
-    .word 0x00000513  # addi x10, x0, 0
     .word 0x000f07b7  # lui x15, 0x000f0
     .word 0x00f78793  # addi x15, x15, 15
     .word 0x0f001837  # lui x16, 0x0f001
@@ -120,6 +119,18 @@ hex_encode:
     # the caller's x2
     .word 0x02028293  # addi x5, x5, 32
     .cfi_def_cfa 5, 0
+    # on to the tail that functions share
+    jal x0, factc.tail.1
+    .cfi_endproc
+    .size hex_encode, . - hex_encode
+    .section .text.factc.tail.1, "axG", @progbits, factc.tail.1, comdat
+    .p2align 2
+    .globl factc.tail.1
+    .hidden factc.tail.1
+    .type factc.tail.1, @function
+factc.tail.1:
+    .cfi_startproc
+    .cfi_def_cfa 5, 0
     # all the room, wiped upward
     .word 0x00012023  # sw x0, 0(x2)
     .word 0x00012223  # sw x0, 4(x2)
@@ -146,5 +157,5 @@ hex_encode:
     # back
     .word 0x00008067  # jalr x0, 0(x1)
     .cfi_endproc
-    .size hex_encode, . - hex_encode
+    .size factc.tail.1, . - factc.tail.1
     .option pop

@@ -1,4 +1,4 @@
-# hsalsa20: made by factc 1.0.0 function; 314 words, 160 bytes of stack, profile 1
+# hsalsa20: made by factc 1.0.0 function; 245 words and 21 shared, 160 bytes of stack, profile 1
     .option push
     .option norvc
     .option norelax
@@ -59,7 +59,6 @@ hsalsa20:
     .word 0x00130313  # addi x6, x6, 1
     .word 0xfe7298e3  # bne x5, x7, -16
     # the body
-    .word 0x00000d93  # addi x27, x0, 0
     .word 0x61708537  # lui x10, 0x61708
     .word 0x86550513  # addi x10, x10, -1947
     .word 0x00012583  # lw x11, 0(x2)
@@ -244,62 +243,14 @@ hsalsa20:
     .word 0x006cccb3  # xor x25, x25, x6
     .word 0xff7d8293  # addi x5, x27, -9
     .word 0xd6029ce3  # bne x5, x0, -648
-    .word 0x02a10823  # sb x10, 48(x2)
-    .word 0x00855293  # srli x5, x10, 8
-    .word 0x025108a3  # sb x5, 49(x2)
-    .word 0x01055293  # srli x5, x10, 16
-    .word 0x02510923  # sb x5, 50(x2)
-    .word 0x01855293  # srli x5, x10, 24
-    .word 0x025109a3  # sb x5, 51(x2)
-    .word 0x02f10a23  # sb x15, 52(x2)
-    .word 0x0087d293  # srli x5, x15, 8
-    .word 0x02510aa3  # sb x5, 53(x2)
-    .word 0x0107d293  # srli x5, x15, 16
-    .word 0x02510b23  # sb x5, 54(x2)
-    .word 0x0187d293  # srli x5, x15, 24
-    .word 0x02510ba3  # sb x5, 55(x2)
-    .word 0x03410c23  # sb x20, 56(x2)
-    .word 0x008a5293  # srli x5, x20, 8
-    .word 0x02510ca3  # sb x5, 57(x2)
-    .word 0x010a5293  # srli x5, x20, 16
-    .word 0x02510d23  # sb x5, 58(x2)
-    .word 0x018a5293  # srli x5, x20, 24
-    .word 0x02510da3  # sb x5, 59(x2)
-    .word 0x03910e23  # sb x25, 60(x2)
-    .word 0x008cd293  # srli x5, x25, 8
-    .word 0x02510ea3  # sb x5, 61(x2)
-    .word 0x010cd293  # srli x5, x25, 16
-    .word 0x02510f23  # sb x5, 62(x2)
-    .word 0x018cd293  # srli x5, x25, 24
-    .word 0x02510fa3  # sb x5, 63(x2)
-    .word 0x05010023  # sb x16, 64(x2)
-    .word 0x00885293  # srli x5, x16, 8
-    .word 0x045100a3  # sb x5, 65(x2)
-    .word 0x01085293  # srli x5, x16, 16
-    .word 0x04510123  # sb x5, 66(x2)
-    .word 0x01885293  # srli x5, x16, 24
-    .word 0x045101a3  # sb x5, 67(x2)
-    .word 0x05110223  # sb x17, 68(x2)
-    .word 0x0088d293  # srli x5, x17, 8
-    .word 0x045102a3  # sb x5, 69(x2)
-    .word 0x0108d293  # srli x5, x17, 16
-    .word 0x04510323  # sb x5, 70(x2)
-    .word 0x0188d293  # srli x5, x17, 24
-    .word 0x045103a3  # sb x5, 71(x2)
-    .word 0x05210423  # sb x18, 72(x2)
-    .word 0x00895293  # srli x5, x18, 8
-    .word 0x045104a3  # sb x5, 73(x2)
-    .word 0x01095293  # srli x5, x18, 16
-    .word 0x04510523  # sb x5, 74(x2)
-    .word 0x01895293  # srli x5, x18, 24
-    .word 0x045105a3  # sb x5, 75(x2)
-    .word 0x05310623  # sb x19, 76(x2)
-    .word 0x0089d293  # srli x5, x19, 8
-    .word 0x045106a3  # sb x5, 77(x2)
-    .word 0x0109d293  # srli x5, x19, 16
-    .word 0x04510723  # sb x5, 78(x2)
-    .word 0x0189d293  # srli x5, x19, 24
-    .word 0x045107a3  # sb x5, 79(x2)
+    .word 0x02a12823  # sw x10, 48(x2)
+    .word 0x02f12a23  # sw x15, 52(x2)
+    .word 0x03412c23  # sw x20, 56(x2)
+    .word 0x03912e23  # sw x25, 60(x2)
+    .word 0x05012023  # sw x16, 64(x2)
+    .word 0x05112223  # sw x17, 68(x2)
+    .word 0x05212423  # sw x18, 72(x2)
+    .word 0x05312623  # sw x19, 76(x2)
     # the result
     .word 0x00000513  # addi x10, x0, 0
     # parameter 2: the array, back
@@ -337,6 +288,18 @@ hsalsa20:
     # the caller's x2
     .word 0x04028293  # addi x5, x5, 64
     .cfi_def_cfa 5, 0
+    # on to the tail that functions share
+    jal x0, factc.tail.1
+    .cfi_endproc
+    .size hsalsa20, . - hsalsa20
+    .section .text.factc.tail.1, "axG", @progbits, factc.tail.1, comdat
+    .p2align 2
+    .globl factc.tail.1
+    .hidden factc.tail.1
+    .type factc.tail.1, @function
+factc.tail.1:
+    .cfi_startproc
+    .cfi_def_cfa 5, 0
     # all the room, wiped upward
     .word 0x00012023  # sw x0, 0(x2)
     .word 0x00012223  # sw x0, 4(x2)
@@ -363,5 +326,5 @@ hsalsa20:
     # back
     .word 0x00008067  # jalr x0, 0(x1)
     .cfi_endproc
-    .size hsalsa20, . - hsalsa20
+    .size factc.tail.1, . - factc.tail.1
     .option pop

@@ -1,4 +1,4 @@
-# is_zero_32: made by factc 1.0.0 function; 44 words, 48 bytes of stack, profile 1
+# is_zero_32: made by factc 1.0.0 function; 23 words and 21 shared, 48 bytes of stack, profile 1
     .option push
     .option norvc
     .option norelax
@@ -26,7 +26,6 @@ is_zero_32:
     .word 0x00130313  # addi x6, x6, 1
     .word 0xfe7298e3  # bne x5, x7, -16
     # the body
-    .word 0x00000593  # addi x11, x0, 0
     .word 0x00000513  # addi x10, x0, 0
     .word 0xfff00593  # addi x11, x0, -1
     .word 0x00158593  # addi x11, x11, 1
@@ -44,6 +43,18 @@ is_zero_32:
     # the caller's registers
     # the caller's x2
     .word 0x00028293  # addi x5, x5, 0
+    .cfi_def_cfa 5, 0
+    # on to the tail that functions share
+    jal x0, factc.tail.1
+    .cfi_endproc
+    .size is_zero_32, . - is_zero_32
+    .section .text.factc.tail.1, "axG", @progbits, factc.tail.1, comdat
+    .p2align 2
+    .globl factc.tail.1
+    .hidden factc.tail.1
+    .type factc.tail.1, @function
+factc.tail.1:
+    .cfi_startproc
     .cfi_def_cfa 5, 0
     # all the room, wiped upward
     .word 0x00012023  # sw x0, 0(x2)
@@ -71,5 +82,5 @@ is_zero_32:
     # back
     .word 0x00008067  # jalr x0, 0(x1)
     .cfi_endproc
-    .size is_zero_32, . - is_zero_32
+    .size factc.tail.1, . - factc.tail.1
     .option pop

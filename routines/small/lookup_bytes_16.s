@@ -1,4 +1,4 @@
-# lookup_bytes_16: made by factc 1.0.0 function; 77 words, 320 bytes of stack, profile 1
+# lookup_bytes_16: made by factc 1.0.0 function; 54 words and 21 shared, 320 bytes of stack, profile 1
     .option push
     .option norvc
     .option norelax
@@ -34,9 +34,6 @@ lookup_bytes_16:
     .word 0xfe7298e3  # bne x5, x7, -16
     # the body
     .word 0x00012503  # lw x10, 0(x2)
-    .word 0x00000593  # addi x11, x0, 0
-    .word 0x00000713  # addi x14, x0, 0
-    .word 0x002707b3  # add x15, x14, x2
     .word 0xfff00713  # addi x14, x0, -1
     .word 0x00170713  # addi x14, x14, 1
     .word 0x002707b3  # add x15, x14, x2
@@ -80,6 +77,18 @@ lookup_bytes_16:
     # the caller's x2
     .word 0x01028293  # addi x5, x5, 16
     .cfi_def_cfa 5, 0
+    # on to the tail that functions share
+    jal x0, factc.tail.1
+    .cfi_endproc
+    .size lookup_bytes_16, . - lookup_bytes_16
+    .section .text.factc.tail.1, "axG", @progbits, factc.tail.1, comdat
+    .p2align 2
+    .globl factc.tail.1
+    .hidden factc.tail.1
+    .type factc.tail.1, @function
+factc.tail.1:
+    .cfi_startproc
+    .cfi_def_cfa 5, 0
     # all the room, wiped upward
     .word 0x00012023  # sw x0, 0(x2)
     .word 0x00012223  # sw x0, 4(x2)
@@ -106,5 +115,5 @@ lookup_bytes_16:
     # back
     .word 0x00008067  # jalr x0, 0(x1)
     .cfi_endproc
-    .size lookup_bytes_16, . - lookup_bytes_16
+    .size factc.tail.1, . - factc.tail.1
     .option pop

@@ -1,4 +1,4 @@
-# mlkem_inverse_ntt: made by factc 1.0.0 function; 789 words, 1120 bytes of stack, profile 1
+# mlkem_inverse_ntt: made by factc 1.0.0 function; 766 words and 21 shared, 1120 bytes of stack, profile 1
     .option push
     .option norvc
     .option norelax
@@ -52,9 +52,6 @@ mlkem_inverse_ntt:
     .word 0x00230313  # addi x6, x6, 2
     .word 0xfe7298e3  # bne x5, x7, -16
     # the body
-    .word 0x00000513  # addi x10, x0, 0
-    .word 0x00000593  # addi x11, x0, 0
-    .word 0x00000813  # addi x16, x0, 0
     .word 0x00007db7  # lui x27, 0x00007
     .word 0x808d8d93  # addi x27, x27, -2040
     .word 0x00001437  # lui x8, 0x00001
@@ -815,6 +812,18 @@ mlkem_inverse_ntt:
     # the caller's x2
     .word 0x04028293  # addi x5, x5, 64
     .cfi_def_cfa 5, 0
+    # on to the tail that functions share
+    jal x0, factc.tail.1
+    .cfi_endproc
+    .size mlkem_inverse_ntt, . - mlkem_inverse_ntt
+    .section .text.factc.tail.1, "axG", @progbits, factc.tail.1, comdat
+    .p2align 2
+    .globl factc.tail.1
+    .hidden factc.tail.1
+    .type factc.tail.1, @function
+factc.tail.1:
+    .cfi_startproc
+    .cfi_def_cfa 5, 0
     # all the room, wiped upward
     .word 0x00012023  # sw x0, 0(x2)
     .word 0x00012223  # sw x0, 4(x2)
@@ -841,5 +850,5 @@ mlkem_inverse_ntt:
     # back
     .word 0x00008067  # jalr x0, 0(x1)
     .cfi_endproc
-    .size mlkem_inverse_ntt, . - mlkem_inverse_ntt
+    .size factc.tail.1, . - factc.tail.1
     .option pop

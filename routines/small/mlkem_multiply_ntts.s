@@ -1,4 +1,4 @@
-# mlkem_multiply_ntts: made by factc 1.0.0 function; 279 words, 1856 bytes of stack, profile 1
+# mlkem_multiply_ntts: made by factc 1.0.0 function; 255 words and 21 shared, 1856 bytes of stack, profile 1
     .option push
     .option norvc
     .option norelax
@@ -58,10 +58,6 @@ mlkem_multiply_ntts:
     .word 0x00230313  # addi x6, x6, 2
     .word 0xfe7298e3  # bne x5, x7, -16
     # the body
-    .word 0x00000513  # addi x10, x0, 0
-    .word 0x00000593  # addi x11, x0, 0
-    .word 0x00251a93  # slli x21, x10, 2
-    .word 0x002a8ab3  # add x21, x21, x2
     .word 0x9d7dc9b7  # lui x19, 0x9d7dc
     .word 0xb4198993  # addi x19, x19, -1215
     .word 0x00001a37  # lui x20, 0x00001
@@ -293,6 +289,18 @@ mlkem_multiply_ntts:
     # the caller's x2
     .word 0x02028293  # addi x5, x5, 32
     .cfi_def_cfa 5, 0
+    # on to the tail that functions share
+    jal x0, factc.tail.1
+    .cfi_endproc
+    .size mlkem_multiply_ntts, . - mlkem_multiply_ntts
+    .section .text.factc.tail.1, "axG", @progbits, factc.tail.1, comdat
+    .p2align 2
+    .globl factc.tail.1
+    .hidden factc.tail.1
+    .type factc.tail.1, @function
+factc.tail.1:
+    .cfi_startproc
+    .cfi_def_cfa 5, 0
     # all the room, wiped upward
     .word 0x00012023  # sw x0, 0(x2)
     .word 0x00012223  # sw x0, 4(x2)
@@ -319,5 +327,5 @@ mlkem_multiply_ntts:
     # back
     .word 0x00008067  # jalr x0, 0(x1)
     .cfi_endproc
-    .size mlkem_multiply_ntts, . - mlkem_multiply_ntts
+    .size factc.tail.1, . - factc.tail.1
     .option pop

@@ -1,4 +1,4 @@
-# p256_invert: made by factc 1.0.0 function; 428 words, 848 bytes of stack, profile 1
+# p256_invert: made by factc 1.0.0 function; 404 words and 21 shared, 848 bytes of stack, profile 1
     .option push
     .option norvc
     .option norelax
@@ -43,11 +43,7 @@ p256_invert:
     .word 0x00430313  # addi x6, x6, 4
     .word 0xfe7298e3  # bne x5, x7, -16
     # the body
-    .word 0x00000513  # addi x10, x0, 0
     .word 0x00000693  # addi x13, x0, 0
-    .word 0x00000913  # addi x18, x0, 0
-    .word 0x00291b93  # slli x23, x18, 2
-    .word 0x002b8bb3  # add x23, x23, x2
     .word 0x04000313  # addi x6, x0, 64
     .word 0x00230333  # add x6, x6, x2
     .word 0x20000393  # addi x7, x0, 512
@@ -444,6 +440,18 @@ p256_invert:
     # the caller's x2
     .word 0x03028293  # addi x5, x5, 48
     .cfi_def_cfa 5, 0
+    # on to the tail that functions share
+    jal x0, factc.tail.1
+    .cfi_endproc
+    .size p256_invert, . - p256_invert
+    .section .text.factc.tail.1, "axG", @progbits, factc.tail.1, comdat
+    .p2align 2
+    .globl factc.tail.1
+    .hidden factc.tail.1
+    .type factc.tail.1, @function
+factc.tail.1:
+    .cfi_startproc
+    .cfi_def_cfa 5, 0
     # all the room, wiped upward
     .word 0x00012023  # sw x0, 0(x2)
     .word 0x00012223  # sw x0, 4(x2)
@@ -470,5 +478,5 @@ p256_invert:
     # back
     .word 0x00008067  # jalr x0, 0(x1)
     .cfi_endproc
-    .size p256_invert, . - p256_invert
+    .size factc.tail.1, . - factc.tail.1
     .option pop

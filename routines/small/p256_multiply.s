@@ -1,4 +1,4 @@
-# p256_multiply: made by factc 1.0.0 function; 338 words, 784 bytes of stack, profile 1
+# p256_multiply: made by factc 1.0.0 function; 312 words and 21 shared, 784 bytes of stack, profile 1
     .option push
     .option norvc
     .option norelax
@@ -41,12 +41,6 @@ p256_multiply:
     .word 0x00430313  # addi x6, x6, 4
     .word 0xfe7298e3  # bne x5, x7, -16
     # the body
-    .word 0x00000613  # addi x12, x0, 0
-    .word 0x00000813  # addi x16, x0, 0
-    .word 0x00261893  # slli x17, x12, 2
-    .word 0x002888b3  # add x17, x17, x2
-    .word 0x00281913  # slli x18, x16, 2
-    .word 0x00290933  # add x18, x18, x2
     .word 0x06000313  # addi x6, x0, 96
     .word 0x00230333  # add x6, x6, x2
     .word 0x20000393  # addi x7, x0, 512
@@ -343,6 +337,18 @@ p256_multiply:
     # the caller's x2
     .word 0x01028293  # addi x5, x5, 16
     .cfi_def_cfa 5, 0
+    # on to the tail that functions share
+    jal x0, factc.tail.1
+    .cfi_endproc
+    .size p256_multiply, . - p256_multiply
+    .section .text.factc.tail.1, "axG", @progbits, factc.tail.1, comdat
+    .p2align 2
+    .globl factc.tail.1
+    .hidden factc.tail.1
+    .type factc.tail.1, @function
+factc.tail.1:
+    .cfi_startproc
+    .cfi_def_cfa 5, 0
     # all the room, wiped upward
     .word 0x00012023  # sw x0, 0(x2)
     .word 0x00012223  # sw x0, 4(x2)
@@ -369,5 +375,5 @@ p256_multiply:
     # back
     .word 0x00008067  # jalr x0, 0(x1)
     .cfi_endproc
-    .size p256_multiply, . - p256_multiply
+    .size factc.tail.1, . - factc.tail.1
     .option pop

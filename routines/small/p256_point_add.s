@@ -1,4 +1,4 @@
-# p256_point_add: made by factc 1.0.0 function; 734 words, 1200 bytes of stack, profile 1
+# p256_point_add: made by factc 1.0.0 function; 707 words and 21 shared, 1200 bytes of stack, profile 1
     .option push
     .option norvc
     .option norelax
@@ -53,13 +53,6 @@ p256_point_add:
     .word 0x00430313  # addi x6, x6, 4
     .word 0xfe7298e3  # bne x5, x7, -16
     # the body
-    .word 0x00000513  # addi x10, x0, 0
-    .word 0x00000593  # addi x11, x0, 0
-    .word 0x00000813  # addi x16, x0, 0
-    .word 0x00251a93  # slli x21, x10, 2
-    .word 0x002a8ab3  # add x21, x21, x2
-    .word 0x00281b93  # slli x23, x16, 2
-    .word 0x002b8bb3  # add x23, x23, x2
     .word 0x12000313  # addi x6, x0, 288
     .word 0x00230333  # add x6, x6, x2
     .word 0x20000393  # addi x7, x0, 512
@@ -751,6 +744,18 @@ p256_point_add:
     # the caller's x2
     .word 0x03028293  # addi x5, x5, 48
     .cfi_def_cfa 5, 0
+    # on to the tail that functions share
+    jal x0, factc.tail.1
+    .cfi_endproc
+    .size p256_point_add, . - p256_point_add
+    .section .text.factc.tail.1, "axG", @progbits, factc.tail.1, comdat
+    .p2align 2
+    .globl factc.tail.1
+    .hidden factc.tail.1
+    .type factc.tail.1, @function
+factc.tail.1:
+    .cfi_startproc
+    .cfi_def_cfa 5, 0
     # all the room, wiped upward
     .word 0x00012023  # sw x0, 0(x2)
     .word 0x00012223  # sw x0, 4(x2)
@@ -777,5 +782,5 @@ p256_point_add:
     # back
     .word 0x00008067  # jalr x0, 0(x1)
     .cfi_endproc
-    .size p256_point_add, . - p256_point_add
+    .size factc.tail.1, . - factc.tail.1
     .option pop

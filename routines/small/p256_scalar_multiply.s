@@ -1,4 +1,4 @@
-# p256_scalar_multiply: made by factc 1.0.0 function; 2071 words, 2928 bytes of stack, profile 1
+# p256_scalar_multiply: made by factc 1.0.0 function; 2047 words and 21 shared, 2928 bytes of stack, profile 1
     .option push
     .option norvc
     .option norelax
@@ -82,13 +82,9 @@ p256_scalar_multiply:
     .word 0x00130313  # addi x6, x6, 1
     .word 0xfe7298e3  # bne x5, x7, -16
     # the body
-    .word 0x00000593  # addi x11, x0, 0
     .word 0x00000613  # addi x12, x0, 0
     .word 0x00000693  # addi x13, x0, 0
     .word 0x00000713  # addi x14, x0, 0
-    .word 0x00000993  # addi x19, x0, 0
-    .word 0x00299d13  # slli x26, x19, 2
-    .word 0x002d0d33  # add x26, x26, x2
     .word 0x000012b7  # lui x5, 0x00001
     .word 0xf0f28293  # addi x5, x5, -241
     .word 0x00001e37  # lui x28, 0x00001
@@ -2101,6 +2097,18 @@ p256_scalar_multiply:
     # the caller's x2
     .word 0x04028293  # addi x5, x5, 64
     .cfi_def_cfa 5, 0
+    # on to the tail that functions share
+    jal x0, factc.tail.1
+    .cfi_endproc
+    .size p256_scalar_multiply, . - p256_scalar_multiply
+    .section .text.factc.tail.1, "axG", @progbits, factc.tail.1, comdat
+    .p2align 2
+    .globl factc.tail.1
+    .hidden factc.tail.1
+    .type factc.tail.1, @function
+factc.tail.1:
+    .cfi_startproc
+    .cfi_def_cfa 5, 0
     # all the room, wiped upward
     .word 0x00012023  # sw x0, 0(x2)
     .word 0x00012223  # sw x0, 4(x2)
@@ -2127,5 +2135,5 @@ p256_scalar_multiply:
     # back
     .word 0x00008067  # jalr x0, 0(x1)
     .cfi_endproc
-    .size p256_scalar_multiply, . - p256_scalar_multiply
+    .size factc.tail.1, . - factc.tail.1
     .option pop

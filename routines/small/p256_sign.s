@@ -1,4 +1,4 @@
-# p256_sign: made by factc 1.0.0 function; 784 words, 1024 bytes of stack, profile 1
+# p256_sign: made by factc 1.0.0 function; 759 words and 21 shared, 1024 bytes of stack, profile 1
     .option push
     .option norvc
     .option norelax
@@ -92,11 +92,6 @@ p256_sign:
     .word 0x00130313  # addi x6, x6, 1
     .word 0xfe7298e3  # bne x5, x7, -16
     # the body
-    .word 0x00000593  # addi x11, x0, 0
-    .word 0x00000693  # addi x13, x0, 0
-    .word 0x00000b93  # addi x23, x0, 0
-    .word 0x002b9493  # slli x9, x23, 2
-    .word 0x002484b3  # add x9, x9, x2
     .word 0xfc6322b7  # lui x5, 0xfc632
     .word 0x54f28293  # addi x5, x5, 1359
     .word 0x38512423  # sw x5, 904(x2)
@@ -814,6 +809,18 @@ p256_sign:
     # the caller's x2
     .word 0x05028293  # addi x5, x5, 80
     .cfi_def_cfa 5, 0
+    # on to the tail that functions share
+    jal x0, factc.tail.1
+    .cfi_endproc
+    .size p256_sign, . - p256_sign
+    .section .text.factc.tail.1, "axG", @progbits, factc.tail.1, comdat
+    .p2align 2
+    .globl factc.tail.1
+    .hidden factc.tail.1
+    .type factc.tail.1, @function
+factc.tail.1:
+    .cfi_startproc
+    .cfi_def_cfa 5, 0
     # all the room, wiped upward
     .word 0x00012023  # sw x0, 0(x2)
     .word 0x00012223  # sw x0, 4(x2)
@@ -840,5 +847,5 @@ p256_sign:
     # back
     .word 0x00008067  # jalr x0, 0(x1)
     .cfi_endproc
-    .size p256_sign, . - p256_sign
+    .size factc.tail.1, . - factc.tail.1
     .option pop

@@ -1,4 +1,4 @@
-# p256_subtract: made by factc 1.0.0 function; 122 words, 160 bytes of stack, profile 1
+# p256_subtract: made by factc 1.0.0 function; 99 words and 21 shared, 160 bytes of stack, profile 1
     .option push
     .option norvc
     .option norelax
@@ -39,9 +39,6 @@ p256_subtract:
     .word 0x00430313  # addi x6, x6, 4
     .word 0xfe7298e3  # bne x5, x7, -16
     # the body
-    .word 0x00000593  # addi x11, x0, 0
-    .word 0x00259793  # slli x15, x11, 2
-    .word 0x002787b3  # add x15, x15, x2
     .word 0x06000313  # addi x6, x0, 96
     .word 0x00230333  # add x6, x6, x2
     .word 0x02000393  # addi x7, x0, 32
@@ -125,6 +122,18 @@ p256_subtract:
     # the caller's x2
     .word 0x01028293  # addi x5, x5, 16
     .cfi_def_cfa 5, 0
+    # on to the tail that functions share
+    jal x0, factc.tail.1
+    .cfi_endproc
+    .size p256_subtract, . - p256_subtract
+    .section .text.factc.tail.1, "axG", @progbits, factc.tail.1, comdat
+    .p2align 2
+    .globl factc.tail.1
+    .hidden factc.tail.1
+    .type factc.tail.1, @function
+factc.tail.1:
+    .cfi_startproc
+    .cfi_def_cfa 5, 0
     # all the room, wiped upward
     .word 0x00012023  # sw x0, 0(x2)
     .word 0x00012223  # sw x0, 4(x2)
@@ -151,5 +160,5 @@ p256_subtract:
     # back
     .word 0x00008067  # jalr x0, 0(x1)
     .cfi_endproc
-    .size p256_subtract, . - p256_subtract
+    .size factc.tail.1, . - factc.tail.1
     .option pop

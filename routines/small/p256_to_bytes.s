@@ -1,4 +1,4 @@
-# p256_to_bytes: made by factc 1.0.0 function; 282 words, 240 bytes of stack, profile 1
+# p256_to_bytes: made by factc 1.0.0 function; 255 words and 21 shared, 240 bytes of stack, profile 1
     .option push
     .option norvc
     .option norelax
@@ -29,13 +29,6 @@ p256_to_bytes:
     .word 0x00430313  # addi x6, x6, 4
     .word 0xfe7298e3  # bne x5, x7, -16
     # the body
-    .word 0x00000513  # addi x10, x0, 0
-    .word 0x00000713  # addi x14, x0, 0
-    .word 0x00000793  # addi x15, x0, 0
-    .word 0x00251813  # slli x16, x10, 2
-    .word 0x00280833  # add x16, x16, x2
-    .word 0x00271893  # slli x17, x14, 2
-    .word 0x002888b3  # add x17, x17, x2
     .word 0x04000313  # addi x6, x0, 64
     .word 0x00230333  # add x6, x6, x2
     .word 0x02000393  # addi x7, x0, 32
@@ -284,6 +277,18 @@ p256_to_bytes:
     # the caller's x2
     .word 0x01028293  # addi x5, x5, 16
     .cfi_def_cfa 5, 0
+    # on to the tail that functions share
+    jal x0, factc.tail.1
+    .cfi_endproc
+    .size p256_to_bytes, . - p256_to_bytes
+    .section .text.factc.tail.1, "axG", @progbits, factc.tail.1, comdat
+    .p2align 2
+    .globl factc.tail.1
+    .hidden factc.tail.1
+    .type factc.tail.1, @function
+factc.tail.1:
+    .cfi_startproc
+    .cfi_def_cfa 5, 0
     # all the room, wiped upward
     .word 0x00012023  # sw x0, 0(x2)
     .word 0x00012223  # sw x0, 4(x2)
@@ -310,5 +315,5 @@ p256_to_bytes:
     # back
     .word 0x00008067  # jalr x0, 0(x1)
     .cfi_endproc
-    .size p256_to_bytes, . - p256_to_bytes
+    .size factc.tail.1, . - factc.tail.1
     .option pop

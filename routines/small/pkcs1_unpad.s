@@ -1,4 +1,4 @@
-# pkcs1_unpad: made by factc 1.0.0 function; 234 words, 272 bytes of stack, profile 1
+# pkcs1_unpad: made by factc 1.0.0 function; 208 words and 21 shared, 272 bytes of stack, profile 1
     .option push
     .option norvc
     .option norelax
@@ -48,12 +48,6 @@ pkcs1_unpad:
     .word 0x00130313  # addi x6, x6, 1
     .word 0xfe7298e3  # bne x5, x7, -16
     # the body
-    .word 0x00000513  # addi x10, x0, 0
-    .word 0x00000713  # addi x14, x0, 0
-    .word 0x00000813  # addi x16, x0, 0
-    .word 0x00000913  # addi x18, x0, 0
-    .word 0x00281b13  # slli x22, x16, 2
-    .word 0x002b0b33  # add x22, x22, x2
     .word 0x00000893  # addi x17, x0, 0
     .word 0x00100a93  # addi x21, x0, 1
     .word 0x00100513  # addi x10, x0, 1
@@ -247,6 +241,18 @@ pkcs1_unpad:
     # the caller's x2
     .word 0x02028293  # addi x5, x5, 32
     .cfi_def_cfa 5, 0
+    # on to the tail that functions share
+    jal x0, factc.tail.1
+    .cfi_endproc
+    .size pkcs1_unpad, . - pkcs1_unpad
+    .section .text.factc.tail.1, "axG", @progbits, factc.tail.1, comdat
+    .p2align 2
+    .globl factc.tail.1
+    .hidden factc.tail.1
+    .type factc.tail.1, @function
+factc.tail.1:
+    .cfi_startproc
+    .cfi_def_cfa 5, 0
     # all the room, wiped upward
     .word 0x00012023  # sw x0, 0(x2)
     .word 0x00012223  # sw x0, 4(x2)
@@ -273,5 +279,5 @@ pkcs1_unpad:
     # back
     .word 0x00008067  # jalr x0, 0(x1)
     .cfi_endproc
-    .size pkcs1_unpad, . - pkcs1_unpad
+    .size factc.tail.1, . - factc.tail.1
     .option pop

@@ -1,4 +1,4 @@
-# poly1305: made by factc 1.0.0 function; 609 words, 304 bytes of stack, profile 1
+# poly1305: made by factc 1.0.0 function; 564 words and 21 shared, 304 bytes of stack, profile 1
     .option push
     .option norvc
     .option norelax
@@ -74,7 +74,6 @@ poly1305:
     # parameter 2: a word
     .word 0x06c12023  # sw x12, 96(x2)
     # the body
-    .word 0x00000593  # addi x11, x0, 0
     .word 0x06012283  # lw x5, 96(x2)
     .word 0x0402b293  # sltiu x5, x5, 64
     .word 0x06012303  # lw x6, 96(x2)
@@ -510,13 +509,7 @@ poly1305:
     .word 0x00e90db3  # add x27, x18, x14
     .word 0x00edb333  # sltu x6, x27, x14
     .word 0x006484b3  # add x9, x9, x6
-    .word 0x07b10223  # sb x27, 100(x2)
-    .word 0x008dd293  # srli x5, x27, 8
-    .word 0x065102a3  # sb x5, 101(x2)
-    .word 0x010dd293  # srli x5, x27, 16
-    .word 0x06510323  # sb x5, 102(x2)
-    .word 0x018dd293  # srli x5, x27, 24
-    .word 0x065103a3  # sb x5, 103(x2)
+    .word 0x07b12223  # sw x27, 100(x2)
     .word 0x00048d93  # addi x27, x9, 0
     .word 0x01414603  # lbu x12, 20(x2)
     .word 0x01514283  # lbu x5, 21(x2)
@@ -539,13 +532,7 @@ poly1305:
     .word 0x012d8db3  # add x27, x27, x18
     .word 0x012db333  # sltu x6, x27, x18
     .word 0x006484b3  # add x9, x9, x6
-    .word 0x07b10423  # sb x27, 104(x2)
-    .word 0x008dd293  # srli x5, x27, 8
-    .word 0x065104a3  # sb x5, 105(x2)
-    .word 0x010dd293  # srli x5, x27, 16
-    .word 0x06510523  # sb x5, 106(x2)
-    .word 0x018dd293  # srli x5, x27, 24
-    .word 0x065105a3  # sb x5, 107(x2)
+    .word 0x07b12423  # sw x27, 104(x2)
     .word 0x00048d93  # addi x27, x9, 0
     .word 0x01814603  # lbu x12, 24(x2)
     .word 0x01914283  # lbu x5, 25(x2)
@@ -568,13 +555,7 @@ poly1305:
     .word 0x012d8db3  # add x27, x27, x18
     .word 0x012db333  # sltu x6, x27, x18
     .word 0x006484b3  # add x9, x9, x6
-    .word 0x07b10623  # sb x27, 108(x2)
-    .word 0x008dd293  # srli x5, x27, 8
-    .word 0x065106a3  # sb x5, 109(x2)
-    .word 0x010dd293  # srli x5, x27, 16
-    .word 0x06510723  # sb x5, 110(x2)
-    .word 0x018dd293  # srli x5, x27, 24
-    .word 0x065107a3  # sb x5, 111(x2)
+    .word 0x07b12623  # sw x27, 108(x2)
     .word 0x00048d93  # addi x27, x9, 0
     .word 0x01c14603  # lbu x12, 28(x2)
     .word 0x01d14283  # lbu x5, 29(x2)
@@ -594,13 +575,7 @@ poly1305:
     .word 0x0062e4b3  # or x9, x5, x6
     .word 0x015d8db3  # add x27, x27, x21
     .word 0x009d8db3  # add x27, x27, x9
-    .word 0x07b10823  # sb x27, 112(x2)
-    .word 0x008dd293  # srli x5, x27, 8
-    .word 0x065108a3  # sb x5, 113(x2)
-    .word 0x010dd293  # srli x5, x27, 16
-    .word 0x06510923  # sb x5, 114(x2)
-    .word 0x018dd293  # srli x5, x27, 24
-    .word 0x065109a3  # sb x5, 115(x2)
+    .word 0x07b12823  # sw x27, 112(x2)
     # the result
     .word 0x00000513  # addi x10, x0, 0
     # parameter 3: the array, back
@@ -640,6 +615,18 @@ poly1305:
     # the caller's x2
     .word 0x04028293  # addi x5, x5, 64
     .cfi_def_cfa 5, 0
+    # on to the tail that functions share
+    jal x0, factc.tail.1
+    .cfi_endproc
+    .size poly1305, . - poly1305
+    .section .text.factc.tail.1, "axG", @progbits, factc.tail.1, comdat
+    .p2align 2
+    .globl factc.tail.1
+    .hidden factc.tail.1
+    .type factc.tail.1, @function
+factc.tail.1:
+    .cfi_startproc
+    .cfi_def_cfa 5, 0
     # all the room, wiped upward
     .word 0x00012023  # sw x0, 0(x2)
     .word 0x00012223  # sw x0, 4(x2)
@@ -666,5 +653,5 @@ poly1305:
     # back
     .word 0x00008067  # jalr x0, 0(x1)
     .cfi_endproc
-    .size poly1305, . - poly1305
+    .size factc.tail.1, . - factc.tail.1
     .option pop

@@ -1,4 +1,4 @@
-# salsa20_block: made by factc 1.0.0 function; 425 words, 224 bytes of stack, profile 1
+# salsa20_block: made by factc 1.0.0 function; 308 words and 21 shared, 224 bytes of stack, profile 1
     .option push
     .option norvc
     .option norelax
@@ -71,7 +71,6 @@ salsa20_block:
     .word 0x0042ae03  # lw x28, 4(x5)
     .word 0x01c32223  # sw x28, 4(x6)
     # the body
-    .word 0x00000493  # addi x9, x0, 0
     .word 0x61708537  # lui x10, 0x61708
     .word 0x86550513  # addi x10, x10, -1947
     .word 0x00012583  # lw x11, 0(x2)
@@ -269,149 +268,53 @@ salsa20_block:
     .word 0x61708337  # lui x6, 0x61708
     .word 0x86530313  # addi x6, x6, -1947
     .word 0x00650433  # add x8, x10, x6
-    .word 0x02810823  # sb x8, 48(x2)
-    .word 0x00845293  # srli x5, x8, 8
-    .word 0x025108a3  # sb x5, 49(x2)
-    .word 0x01045293  # srli x5, x8, 16
-    .word 0x02510923  # sb x5, 50(x2)
-    .word 0x01845293  # srli x5, x8, 24
-    .word 0x025109a3  # sb x5, 51(x2)
+    .word 0x02812823  # sw x8, 48(x2)
     .word 0x01a58433  # add x8, x11, x26
-    .word 0x02810a23  # sb x8, 52(x2)
-    .word 0x00845293  # srli x5, x8, 8
-    .word 0x02510aa3  # sb x5, 53(x2)
-    .word 0x01045293  # srli x5, x8, 16
-    .word 0x02510b23  # sb x5, 54(x2)
-    .word 0x01845293  # srli x5, x8, 24
-    .word 0x02510ba3  # sb x5, 55(x2)
+    .word 0x02812a23  # sw x8, 52(x2)
     .word 0x01b60433  # add x8, x12, x27
-    .word 0x02810c23  # sb x8, 56(x2)
-    .word 0x00845293  # srli x5, x8, 8
-    .word 0x02510ca3  # sb x5, 57(x2)
-    .word 0x01045293  # srli x5, x8, 16
-    .word 0x02510d23  # sb x5, 58(x2)
-    .word 0x01845293  # srli x5, x8, 24
-    .word 0x02510da3  # sb x5, 59(x2)
+    .word 0x02812c23  # sw x8, 56(x2)
     .word 0x07012303  # lw x6, 112(x2)
     .word 0x00668433  # add x8, x13, x6
-    .word 0x02810e23  # sb x8, 60(x2)
-    .word 0x00845293  # srli x5, x8, 8
-    .word 0x02510ea3  # sb x5, 61(x2)
-    .word 0x01045293  # srli x5, x8, 16
-    .word 0x02510f23  # sb x5, 62(x2)
-    .word 0x01845293  # srli x5, x8, 24
-    .word 0x02510fa3  # sb x5, 63(x2)
+    .word 0x02812e23  # sw x8, 60(x2)
     .word 0x07412303  # lw x6, 116(x2)
     .word 0x00670433  # add x8, x14, x6
-    .word 0x04810023  # sb x8, 64(x2)
-    .word 0x00845293  # srli x5, x8, 8
-    .word 0x045100a3  # sb x5, 65(x2)
-    .word 0x01045293  # srli x5, x8, 16
-    .word 0x04510123  # sb x5, 66(x2)
-    .word 0x01845293  # srli x5, x8, 24
-    .word 0x045101a3  # sb x5, 67(x2)
+    .word 0x04812023  # sw x8, 64(x2)
     .word 0x33206337  # lui x6, 0x33206
     .word 0x46e30313  # addi x6, x6, 1134
     .word 0x00678433  # add x8, x15, x6
-    .word 0x04810223  # sb x8, 68(x2)
-    .word 0x00845293  # srli x5, x8, 8
-    .word 0x045102a3  # sb x5, 69(x2)
-    .word 0x01045293  # srli x5, x8, 16
-    .word 0x04510323  # sb x5, 70(x2)
-    .word 0x01845293  # srli x5, x8, 24
-    .word 0x045103a3  # sb x5, 71(x2)
+    .word 0x04812223  # sw x8, 68(x2)
     .word 0x07812303  # lw x6, 120(x2)
     .word 0x00680433  # add x8, x16, x6
-    .word 0x04810423  # sb x8, 72(x2)
-    .word 0x00845293  # srli x5, x8, 8
-    .word 0x045104a3  # sb x5, 73(x2)
-    .word 0x01045293  # srli x5, x8, 16
-    .word 0x04510523  # sb x5, 74(x2)
-    .word 0x01845293  # srli x5, x8, 24
-    .word 0x045105a3  # sb x5, 75(x2)
+    .word 0x04812423  # sw x8, 72(x2)
     .word 0x07c12303  # lw x6, 124(x2)
     .word 0x00688433  # add x8, x17, x6
-    .word 0x04810623  # sb x8, 76(x2)
-    .word 0x00845293  # srli x5, x8, 8
-    .word 0x045106a3  # sb x5, 77(x2)
-    .word 0x01045293  # srli x5, x8, 16
-    .word 0x04510723  # sb x5, 78(x2)
-    .word 0x01845293  # srli x5, x8, 24
-    .word 0x045107a3  # sb x5, 79(x2)
+    .word 0x04812623  # sw x8, 76(x2)
     .word 0x02812303  # lw x6, 40(x2)
     .word 0x00690433  # add x8, x18, x6
-    .word 0x04810823  # sb x8, 80(x2)
-    .word 0x00845293  # srli x5, x8, 8
-    .word 0x045108a3  # sb x5, 81(x2)
-    .word 0x01045293  # srli x5, x8, 16
-    .word 0x04510923  # sb x5, 82(x2)
-    .word 0x01845293  # srli x5, x8, 24
-    .word 0x045109a3  # sb x5, 83(x2)
+    .word 0x04812823  # sw x8, 80(x2)
     .word 0x02c12303  # lw x6, 44(x2)
     .word 0x00698433  # add x8, x19, x6
-    .word 0x04810a23  # sb x8, 84(x2)
-    .word 0x00845293  # srli x5, x8, 8
-    .word 0x04510aa3  # sb x5, 85(x2)
-    .word 0x01045293  # srli x5, x8, 16
-    .word 0x04510b23  # sb x5, 86(x2)
-    .word 0x01845293  # srli x5, x8, 24
-    .word 0x04510ba3  # sb x5, 87(x2)
+    .word 0x04812a23  # sw x8, 84(x2)
     .word 0x79623337  # lui x6, 0x79623
     .word 0xd3230313  # addi x6, x6, -718
     .word 0x006a0433  # add x8, x20, x6
-    .word 0x04810c23  # sb x8, 88(x2)
-    .word 0x00845293  # srli x5, x8, 8
-    .word 0x04510ca3  # sb x5, 89(x2)
-    .word 0x01045293  # srli x5, x8, 16
-    .word 0x04510d23  # sb x5, 90(x2)
-    .word 0x01845293  # srli x5, x8, 24
-    .word 0x04510da3  # sb x5, 91(x2)
+    .word 0x04812c23  # sw x8, 88(x2)
     .word 0x08012303  # lw x6, 128(x2)
     .word 0x006a8433  # add x8, x21, x6
-    .word 0x04810e23  # sb x8, 92(x2)
-    .word 0x00845293  # srli x5, x8, 8
-    .word 0x04510ea3  # sb x5, 93(x2)
-    .word 0x01045293  # srli x5, x8, 16
-    .word 0x04510f23  # sb x5, 94(x2)
-    .word 0x01845293  # srli x5, x8, 24
-    .word 0x04510fa3  # sb x5, 95(x2)
+    .word 0x04812e23  # sw x8, 92(x2)
     .word 0x08412303  # lw x6, 132(x2)
     .word 0x006b0433  # add x8, x22, x6
-    .word 0x06810023  # sb x8, 96(x2)
-    .word 0x00845293  # srli x5, x8, 8
-    .word 0x065100a3  # sb x5, 97(x2)
-    .word 0x01045293  # srli x5, x8, 16
-    .word 0x06510123  # sb x5, 98(x2)
-    .word 0x01845293  # srli x5, x8, 24
-    .word 0x065101a3  # sb x5, 99(x2)
+    .word 0x06812023  # sw x8, 96(x2)
     .word 0x08812303  # lw x6, 136(x2)
     .word 0x006b8433  # add x8, x23, x6
-    .word 0x06810223  # sb x8, 100(x2)
-    .word 0x00845293  # srli x5, x8, 8
-    .word 0x065102a3  # sb x5, 101(x2)
-    .word 0x01045293  # srli x5, x8, 16
-    .word 0x06510323  # sb x5, 102(x2)
-    .word 0x01845293  # srli x5, x8, 24
-    .word 0x065103a3  # sb x5, 103(x2)
+    .word 0x06812223  # sw x8, 100(x2)
     .word 0x08c12303  # lw x6, 140(x2)
     .word 0x006c0433  # add x8, x24, x6
-    .word 0x06810423  # sb x8, 104(x2)
-    .word 0x00845293  # srli x5, x8, 8
-    .word 0x065104a3  # sb x5, 105(x2)
-    .word 0x01045293  # srli x5, x8, 16
-    .word 0x06510523  # sb x5, 106(x2)
-    .word 0x01845293  # srli x5, x8, 24
-    .word 0x065105a3  # sb x5, 107(x2)
+    .word 0x06812423  # sw x8, 104(x2)
     .word 0x6b206337  # lui x6, 0x6b206
     .word 0x57430313  # addi x6, x6, 1396
     .word 0x006c8433  # add x8, x25, x6
-    .word 0x06810623  # sb x8, 108(x2)
-    .word 0x00845293  # srli x5, x8, 8
-    .word 0x065106a3  # sb x5, 109(x2)
-    .word 0x01045293  # srli x5, x8, 16
-    .word 0x06510723  # sb x5, 110(x2)
-    .word 0x01845293  # srli x5, x8, 24
-    .word 0x065107a3  # sb x5, 111(x2)
+    .word 0x06812623  # sw x8, 108(x2)
     # the result
     .word 0x00000513  # addi x10, x0, 0
     # parameter 3: the array, back
@@ -453,6 +356,18 @@ salsa20_block:
     # the caller's x2
     .word 0x04028293  # addi x5, x5, 64
     .cfi_def_cfa 5, 0
+    # on to the tail that functions share
+    jal x0, factc.tail.1
+    .cfi_endproc
+    .size salsa20_block, . - salsa20_block
+    .section .text.factc.tail.1, "axG", @progbits, factc.tail.1, comdat
+    .p2align 2
+    .globl factc.tail.1
+    .hidden factc.tail.1
+    .type factc.tail.1, @function
+factc.tail.1:
+    .cfi_startproc
+    .cfi_def_cfa 5, 0
     # all the room, wiped upward
     .word 0x00012023  # sw x0, 0(x2)
     .word 0x00012223  # sw x0, 4(x2)
@@ -479,5 +394,5 @@ salsa20_block:
     # back
     .word 0x00008067  # jalr x0, 0(x1)
     .cfi_endproc
-    .size salsa20_block, . - salsa20_block
+    .size factc.tail.1, . - factc.tail.1
     .option pop

@@ -1,4 +1,4 @@
-# salsa20_core: made by factc 1.0.0 function; 406 words, 208 bytes of stack, profile 1
+# salsa20_core: made by factc 1.0.0 function; 289 words and 21 shared, 208 bytes of stack, profile 1
     .option push
     .option norvc
     .option norelax
@@ -52,7 +52,6 @@ salsa20_core:
     .word 0x00130313  # addi x6, x6, 1
     .word 0xfe7298e3  # bne x5, x7, -16
     # the body
-    .word 0x00000493  # addi x9, x0, 0
     .word 0x00012503  # lw x10, 0(x2)
     .word 0x00412583  # lw x11, 4(x2)
     .word 0x00812603  # lw x12, 8(x2)
@@ -250,147 +249,51 @@ salsa20_core:
     .word 0xff748293  # addi x5, x9, -9
     .word 0xd6029ce3  # bne x5, x0, -648
     .word 0x01a50433  # add x8, x10, x26
-    .word 0x00810023  # sb x8, 0(x2)
-    .word 0x00845293  # srli x5, x8, 8
-    .word 0x005100a3  # sb x5, 1(x2)
-    .word 0x01045293  # srli x5, x8, 16
-    .word 0x00510123  # sb x5, 2(x2)
-    .word 0x01845293  # srli x5, x8, 24
-    .word 0x005101a3  # sb x5, 3(x2)
+    .word 0x00812023  # sw x8, 0(x2)
     .word 0x01b58433  # add x8, x11, x27
-    .word 0x00810223  # sb x8, 4(x2)
-    .word 0x00845293  # srli x5, x8, 8
-    .word 0x005102a3  # sb x5, 5(x2)
-    .word 0x01045293  # srli x5, x8, 16
-    .word 0x00510323  # sb x5, 6(x2)
-    .word 0x01845293  # srli x5, x8, 24
-    .word 0x005103a3  # sb x5, 7(x2)
+    .word 0x00812223  # sw x8, 4(x2)
     .word 0x04012303  # lw x6, 64(x2)
     .word 0x00660433  # add x8, x12, x6
-    .word 0x00810423  # sb x8, 8(x2)
-    .word 0x00845293  # srli x5, x8, 8
-    .word 0x005104a3  # sb x5, 9(x2)
-    .word 0x01045293  # srli x5, x8, 16
-    .word 0x00510523  # sb x5, 10(x2)
-    .word 0x01845293  # srli x5, x8, 24
-    .word 0x005105a3  # sb x5, 11(x2)
+    .word 0x00812423  # sw x8, 8(x2)
     .word 0x04412303  # lw x6, 68(x2)
     .word 0x00668433  # add x8, x13, x6
-    .word 0x00810623  # sb x8, 12(x2)
-    .word 0x00845293  # srli x5, x8, 8
-    .word 0x005106a3  # sb x5, 13(x2)
-    .word 0x01045293  # srli x5, x8, 16
-    .word 0x00510723  # sb x5, 14(x2)
-    .word 0x01845293  # srli x5, x8, 24
-    .word 0x005107a3  # sb x5, 15(x2)
+    .word 0x00812623  # sw x8, 12(x2)
     .word 0x04812303  # lw x6, 72(x2)
     .word 0x00670433  # add x8, x14, x6
-    .word 0x00810823  # sb x8, 16(x2)
-    .word 0x00845293  # srli x5, x8, 8
-    .word 0x005108a3  # sb x5, 17(x2)
-    .word 0x01045293  # srli x5, x8, 16
-    .word 0x00510923  # sb x5, 18(x2)
-    .word 0x01845293  # srli x5, x8, 24
-    .word 0x005109a3  # sb x5, 19(x2)
+    .word 0x00812823  # sw x8, 16(x2)
     .word 0x04c12303  # lw x6, 76(x2)
     .word 0x00678433  # add x8, x15, x6
-    .word 0x00810a23  # sb x8, 20(x2)
-    .word 0x00845293  # srli x5, x8, 8
-    .word 0x00510aa3  # sb x5, 21(x2)
-    .word 0x01045293  # srli x5, x8, 16
-    .word 0x00510b23  # sb x5, 22(x2)
-    .word 0x01845293  # srli x5, x8, 24
-    .word 0x00510ba3  # sb x5, 23(x2)
+    .word 0x00812a23  # sw x8, 20(x2)
     .word 0x05012303  # lw x6, 80(x2)
     .word 0x00680433  # add x8, x16, x6
-    .word 0x00810c23  # sb x8, 24(x2)
-    .word 0x00845293  # srli x5, x8, 8
-    .word 0x00510ca3  # sb x5, 25(x2)
-    .word 0x01045293  # srli x5, x8, 16
-    .word 0x00510d23  # sb x5, 26(x2)
-    .word 0x01845293  # srli x5, x8, 24
-    .word 0x00510da3  # sb x5, 27(x2)
+    .word 0x00812c23  # sw x8, 24(x2)
     .word 0x05412303  # lw x6, 84(x2)
     .word 0x00688433  # add x8, x17, x6
-    .word 0x00810e23  # sb x8, 28(x2)
-    .word 0x00845293  # srli x5, x8, 8
-    .word 0x00510ea3  # sb x5, 29(x2)
-    .word 0x01045293  # srli x5, x8, 16
-    .word 0x00510f23  # sb x5, 30(x2)
-    .word 0x01845293  # srli x5, x8, 24
-    .word 0x00510fa3  # sb x5, 31(x2)
+    .word 0x00812e23  # sw x8, 28(x2)
     .word 0x05812303  # lw x6, 88(x2)
     .word 0x00690433  # add x8, x18, x6
-    .word 0x02810023  # sb x8, 32(x2)
-    .word 0x00845293  # srli x5, x8, 8
-    .word 0x025100a3  # sb x5, 33(x2)
-    .word 0x01045293  # srli x5, x8, 16
-    .word 0x02510123  # sb x5, 34(x2)
-    .word 0x01845293  # srli x5, x8, 24
-    .word 0x025101a3  # sb x5, 35(x2)
+    .word 0x02812023  # sw x8, 32(x2)
     .word 0x05c12303  # lw x6, 92(x2)
     .word 0x00698433  # add x8, x19, x6
-    .word 0x02810223  # sb x8, 36(x2)
-    .word 0x00845293  # srli x5, x8, 8
-    .word 0x025102a3  # sb x5, 37(x2)
-    .word 0x01045293  # srli x5, x8, 16
-    .word 0x02510323  # sb x5, 38(x2)
-    .word 0x01845293  # srli x5, x8, 24
-    .word 0x025103a3  # sb x5, 39(x2)
+    .word 0x02812223  # sw x8, 36(x2)
     .word 0x06012303  # lw x6, 96(x2)
     .word 0x006a0433  # add x8, x20, x6
-    .word 0x02810423  # sb x8, 40(x2)
-    .word 0x00845293  # srli x5, x8, 8
-    .word 0x025104a3  # sb x5, 41(x2)
-    .word 0x01045293  # srli x5, x8, 16
-    .word 0x02510523  # sb x5, 42(x2)
-    .word 0x01845293  # srli x5, x8, 24
-    .word 0x025105a3  # sb x5, 43(x2)
+    .word 0x02812423  # sw x8, 40(x2)
     .word 0x06412303  # lw x6, 100(x2)
     .word 0x006a8433  # add x8, x21, x6
-    .word 0x02810623  # sb x8, 44(x2)
-    .word 0x00845293  # srli x5, x8, 8
-    .word 0x025106a3  # sb x5, 45(x2)
-    .word 0x01045293  # srli x5, x8, 16
-    .word 0x02510723  # sb x5, 46(x2)
-    .word 0x01845293  # srli x5, x8, 24
-    .word 0x025107a3  # sb x5, 47(x2)
+    .word 0x02812623  # sw x8, 44(x2)
     .word 0x06812303  # lw x6, 104(x2)
     .word 0x006b0433  # add x8, x22, x6
-    .word 0x02810823  # sb x8, 48(x2)
-    .word 0x00845293  # srli x5, x8, 8
-    .word 0x025108a3  # sb x5, 49(x2)
-    .word 0x01045293  # srli x5, x8, 16
-    .word 0x02510923  # sb x5, 50(x2)
-    .word 0x01845293  # srli x5, x8, 24
-    .word 0x025109a3  # sb x5, 51(x2)
+    .word 0x02812823  # sw x8, 48(x2)
     .word 0x06c12303  # lw x6, 108(x2)
     .word 0x006b8433  # add x8, x23, x6
-    .word 0x02810a23  # sb x8, 52(x2)
-    .word 0x00845293  # srli x5, x8, 8
-    .word 0x02510aa3  # sb x5, 53(x2)
-    .word 0x01045293  # srli x5, x8, 16
-    .word 0x02510b23  # sb x5, 54(x2)
-    .word 0x01845293  # srli x5, x8, 24
-    .word 0x02510ba3  # sb x5, 55(x2)
+    .word 0x02812a23  # sw x8, 52(x2)
     .word 0x07012303  # lw x6, 112(x2)
     .word 0x006c0433  # add x8, x24, x6
-    .word 0x02810c23  # sb x8, 56(x2)
-    .word 0x00845293  # srli x5, x8, 8
-    .word 0x02510ca3  # sb x5, 57(x2)
-    .word 0x01045293  # srli x5, x8, 16
-    .word 0x02510d23  # sb x5, 58(x2)
-    .word 0x01845293  # srli x5, x8, 24
-    .word 0x02510da3  # sb x5, 59(x2)
+    .word 0x02812c23  # sw x8, 56(x2)
     .word 0x07412303  # lw x6, 116(x2)
     .word 0x006c8433  # add x8, x25, x6
-    .word 0x02810e23  # sb x8, 60(x2)
-    .word 0x00845293  # srli x5, x8, 8
-    .word 0x02510ea3  # sb x5, 61(x2)
-    .word 0x01045293  # srli x5, x8, 16
-    .word 0x02510f23  # sb x5, 62(x2)
-    .word 0x01845293  # srli x5, x8, 24
-    .word 0x02510fa3  # sb x5, 63(x2)
+    .word 0x02812e23  # sw x8, 60(x2)
     # the result
     .word 0x00000513  # addi x10, x0, 0
     # parameter 0: the array, back
@@ -432,6 +335,18 @@ salsa20_core:
     # the caller's x2
     .word 0x04028293  # addi x5, x5, 64
     .cfi_def_cfa 5, 0
+    # on to the tail that functions share
+    jal x0, factc.tail.1
+    .cfi_endproc
+    .size salsa20_core, . - salsa20_core
+    .section .text.factc.tail.1, "axG", @progbits, factc.tail.1, comdat
+    .p2align 2
+    .globl factc.tail.1
+    .hidden factc.tail.1
+    .type factc.tail.1, @function
+factc.tail.1:
+    .cfi_startproc
+    .cfi_def_cfa 5, 0
     # all the room, wiped upward
     .word 0x00012023  # sw x0, 0(x2)
     .word 0x00012223  # sw x0, 4(x2)
@@ -458,5 +373,5 @@ salsa20_core:
     # back
     .word 0x00008067  # jalr x0, 0(x1)
     .cfi_endproc
-    .size salsa20_core, . - salsa20_core
+    .size factc.tail.1, . - factc.tail.1
     .option pop

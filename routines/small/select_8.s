@@ -1,4 +1,4 @@
-# select_8: made by factc 1.0.0 function; 81 words, 48 bytes of stack, profile 1
+# select_8: made by factc 1.0.0 function; 61 words and 21 shared, 48 bytes of stack, profile 1
     .option push
     .option norvc
     .option norelax
@@ -83,6 +83,18 @@ select_8:
     # the caller's x2
     .word 0x00028293  # addi x5, x5, 0
     .cfi_def_cfa 5, 0
+    # on to the tail that functions share
+    jal x0, factc.tail.1
+    .cfi_endproc
+    .size select_8, . - select_8
+    .section .text.factc.tail.1, "axG", @progbits, factc.tail.1, comdat
+    .p2align 2
+    .globl factc.tail.1
+    .hidden factc.tail.1
+    .type factc.tail.1, @function
+factc.tail.1:
+    .cfi_startproc
+    .cfi_def_cfa 5, 0
     # all the room, wiped upward
     .word 0x00012023  # sw x0, 0(x2)
     .word 0x00012223  # sw x0, 4(x2)
@@ -109,5 +121,5 @@ select_8:
     # back
     .word 0x00008067  # jalr x0, 0(x1)
     .cfi_endproc
-    .size select_8, . - select_8
+    .size factc.tail.1, . - factc.tail.1
     .option pop

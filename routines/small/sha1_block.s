@@ -1,4 +1,4 @@
-# sha1_block: made by factc 1.0.0 function; 488 words, 240 bytes of stack, profile 1
+# sha1_block: made by factc 1.0.0 function; 457 words and 21 shared, 240 bytes of stack, profile 1
     .option push
     .option norvc
     .option norelax
@@ -55,17 +55,6 @@ sha1_block:
     .word 0x00130313  # addi x6, x6, 1
     .word 0xfe7298e3  # bne x5, x7, -16
     # the body
-    .word 0x00000513  # addi x10, x0, 0
-    .word 0x00000893  # addi x17, x0, 0
-    .word 0x00000913  # addi x18, x0, 0
-    .word 0x00000993  # addi x19, x0, 0
-    .word 0x00000a13  # addi x20, x0, 0
-    .word 0x00291c13  # slli x24, x18, 2
-    .word 0x002c0c33  # add x24, x24, x2
-    .word 0x00299c93  # slli x25, x19, 2
-    .word 0x002c8cb3  # add x25, x25, x2
-    .word 0x002a1d13  # slli x26, x20, 2
-    .word 0x002d0d33  # add x26, x26, x2
     .word 0x6ed9fab7  # lui x21, 0x6ed9f
     .word 0xba1a8a93  # addi x21, x21, -1119
     .word 0xca62cb37  # lui x22, 0xca62c
@@ -509,6 +498,18 @@ sha1_block:
     # the caller's x2
     .word 0x03028293  # addi x5, x5, 48
     .cfi_def_cfa 5, 0
+    # on to the tail that functions share
+    jal x0, factc.tail.1
+    .cfi_endproc
+    .size sha1_block, . - sha1_block
+    .section .text.factc.tail.1, "axG", @progbits, factc.tail.1, comdat
+    .p2align 2
+    .globl factc.tail.1
+    .hidden factc.tail.1
+    .type factc.tail.1, @function
+factc.tail.1:
+    .cfi_startproc
+    .cfi_def_cfa 5, 0
     # all the room, wiped upward
     .word 0x00012023  # sw x0, 0(x2)
     .word 0x00012223  # sw x0, 4(x2)
@@ -535,5 +536,5 @@ sha1_block:
     # back
     .word 0x00008067  # jalr x0, 0(x1)
     .cfi_endproc
-    .size sha1_block, . - sha1_block
+    .size factc.tail.1, . - factc.tail.1
     .option pop

@@ -1,4 +1,4 @@
-# sha256_short: made by factc 1.0.0 function; 868 words, 736 bytes of stack, profile 1
+# sha256_short: made by factc 1.0.0 function; 846 words and 21 shared, 736 bytes of stack, profile 1
     .option push
     .option norvc
     .option norelax
@@ -64,8 +64,6 @@ sha256_short:
     .word 0xfe7298e3  # bne x5, x7, -16
     # the body
     .word 0x00000513  # addi x10, x0, 0
-    .word 0x00000a93  # addi x21, x0, 0
-    .word 0x00000c13  # addi x24, x0, 0
     .word 0x6a09e2b7  # lui x5, 0x6a09e
     .word 0x66728293  # addi x5, x5, 1639
     .word 0x08512e23  # sw x5, 156(x2)
@@ -894,6 +892,18 @@ sha256_short:
     # the caller's x2
     .word 0x04028293  # addi x5, x5, 64
     .cfi_def_cfa 5, 0
+    # on to the tail that functions share
+    jal x0, factc.tail.1
+    .cfi_endproc
+    .size sha256_short, . - sha256_short
+    .section .text.factc.tail.1, "axG", @progbits, factc.tail.1, comdat
+    .p2align 2
+    .globl factc.tail.1
+    .hidden factc.tail.1
+    .type factc.tail.1, @function
+factc.tail.1:
+    .cfi_startproc
+    .cfi_def_cfa 5, 0
     # all the room, wiped upward
     .word 0x00012023  # sw x0, 0(x2)
     .word 0x00012223  # sw x0, 4(x2)
@@ -920,5 +930,5 @@ sha256_short:
     # back
     .word 0x00008067  # jalr x0, 0(x1)
     .cfi_endproc
-    .size sha256_short, . - sha256_short
+    .size factc.tail.1, . - factc.tail.1
     .option pop

@@ -1,4 +1,4 @@
-# siphash24: made by factc 1.0.0 function; 268 words, 176 bytes of stack, profile 1
+# siphash24: made by factc 1.0.0 function; 237 words and 21 shared, 176 bytes of stack, profile 1
     .option push
     .option norvc
     .option norelax
@@ -66,7 +66,6 @@ siphash24:
     # the body
     .word 0x05012503  # lw x10, 80(x2)
     .word 0x00000b13  # addi x22, x0, 0
-    .word 0x00000c93  # addi x25, x0, 0
     .word 0x00000d93  # addi x27, x0, 0
     .word 0x00012983  # lw x19, 0(x2)
     .word 0x00412883  # lw x17, 4(x2)
@@ -243,18 +242,8 @@ siphash24:
     .word 0x00d5c2b3  # xor x5, x11, x13
     .word 0x00f2c2b3  # xor x5, x5, x15
     .word 0x0112c8b3  # xor x17, x5, x17
-    .word 0xfff00c93  # addi x25, x0, -1
-    .word 0x001c8c93  # addi x25, x25, 1
-    .word 0x003c9393  # slli x7, x25, 3
-    .word 0x0079d333  # srl x6, x19, x7
-    .word 0x002c82b3  # add x5, x25, x2
-    .word 0x04628a23  # sb x6, 84(x5)
-    .word 0x003c9393  # slli x7, x25, 3
-    .word 0x0078d333  # srl x6, x17, x7
-    .word 0x002c82b3  # add x5, x25, x2
-    .word 0x04628c23  # sb x6, 88(x5)
-    .word 0xffdc8293  # addi x5, x25, -3
-    .word 0xfc029ce3  # bne x5, x0, -40
+    .word 0x05312a23  # sw x19, 84(x2)
+    .word 0x05112c23  # sw x17, 88(x2)
     # the result
     .word 0x00000513  # addi x10, x0, 0
     # parameter 3: the array, back
@@ -294,6 +283,18 @@ siphash24:
     # the caller's x2
     .word 0x04028293  # addi x5, x5, 64
     .cfi_def_cfa 5, 0
+    # on to the tail that functions share
+    jal x0, factc.tail.1
+    .cfi_endproc
+    .size siphash24, . - siphash24
+    .section .text.factc.tail.1, "axG", @progbits, factc.tail.1, comdat
+    .p2align 2
+    .globl factc.tail.1
+    .hidden factc.tail.1
+    .type factc.tail.1, @function
+factc.tail.1:
+    .cfi_startproc
+    .cfi_def_cfa 5, 0
     # all the room, wiped upward
     .word 0x00012023  # sw x0, 0(x2)
     .word 0x00012223  # sw x0, 4(x2)
@@ -320,5 +321,5 @@ siphash24:
     # back
     .word 0x00008067  # jalr x0, 0(x1)
     .cfi_endproc
-    .size siphash24, . - siphash24
+    .size factc.tail.1, . - factc.tail.1
     .option pop

@@ -6,7 +6,7 @@
 #define FACT_siphash24_finish_H
 #include <stdbool.h>
 #include <stdint.h>
-#define siphash24_finish_STACK_BYTES 112
+#define siphash24_finish_STACK_BYTES 96
 #ifdef __cplusplus
 extern "C" {
 #endif

@@ -1,4 +1,4 @@
-# square_root_32: made by factc 1.0.0 function; 46 words, 16 bytes of stack, profile 1
+# square_root_32: made by factc 1.0.0 function; 25 words and 21 shared, 16 bytes of stack, profile 1
     .option push
     .option norvc
     .option norelax
@@ -20,7 +20,6 @@ square_root_32:
     .word 0x00a12023  # sw x10, 0(x2)
     # the body
     .word 0x00012503  # lw x10, 0(x2)
-    .word 0x00000713  # addi x14, x0, 0
     .word 0x00050593  # addi x11, x10, 0
     .word 0x00000613  # addi x12, x0, 0
     .word 0x400006b7  # lui x13, 0x40000
@@ -46,6 +45,18 @@ square_root_32:
     # the caller's registers
     # the caller's x2
     .word 0x00028293  # addi x5, x5, 0
+    .cfi_def_cfa 5, 0
+    # on to the tail that functions share
+    jal x0, factc.tail.1
+    .cfi_endproc
+    .size square_root_32, . - square_root_32
+    .section .text.factc.tail.1, "axG", @progbits, factc.tail.1, comdat
+    .p2align 2
+    .globl factc.tail.1
+    .hidden factc.tail.1
+    .type factc.tail.1, @function
+factc.tail.1:
+    .cfi_startproc
     .cfi_def_cfa 5, 0
     # all the room, wiped upward
     .word 0x00012023  # sw x0, 0(x2)
@@ -73,5 +84,5 @@ square_root_32:
     # back
     .word 0x00008067  # jalr x0, 0(x1)
     .cfi_endproc
-    .size square_root_32, . - square_root_32
+    .size factc.tail.1, . - factc.tail.1
     .option pop

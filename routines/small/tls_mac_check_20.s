@@ -1,4 +1,4 @@
-# tls_mac_check_20: made by factc 1.0.0 function; 244 words, 416 bytes of stack, profile 1
+# tls_mac_check_20: made by factc 1.0.0 function; 216 words and 21 shared, 416 bytes of stack, profile 1
     .option push
     .option norvc
     .option norelax
@@ -51,14 +51,6 @@ tls_mac_check_20:
     .word 0xfe7298e3  # bne x5, x7, -16
     # the body
     .word 0x11812503  # lw x10, 280(x2)
-    .word 0x00000693  # addi x13, x0, 0
-    .word 0x00000793  # addi x15, x0, 0
-    .word 0x00000993  # addi x19, x0, 0
-    .word 0x00000a13  # addi x20, x0, 0
-    .word 0x00299b13  # slli x22, x19, 2
-    .word 0x002b0b33  # add x22, x22, x2
-    .word 0x002a1b93  # slli x23, x20, 2
-    .word 0x002b8bb3  # add x23, x23, x2
     .word 0x10400293  # addi x5, x0, 260
     .word 0x40a285b3  # sub x11, x5, x10
     .word 0x0025d613  # srli x12, x11, 2
@@ -259,6 +251,18 @@ tls_mac_check_20:
     # the caller's x2
     .word 0x02028293  # addi x5, x5, 32
     .cfi_def_cfa 5, 0
+    # on to the tail that functions share
+    jal x0, factc.tail.1
+    .cfi_endproc
+    .size tls_mac_check_20, . - tls_mac_check_20
+    .section .text.factc.tail.1, "axG", @progbits, factc.tail.1, comdat
+    .p2align 2
+    .globl factc.tail.1
+    .hidden factc.tail.1
+    .type factc.tail.1, @function
+factc.tail.1:
+    .cfi_startproc
+    .cfi_def_cfa 5, 0
     # all the room, wiped upward
     .word 0x00012023  # sw x0, 0(x2)
     .word 0x00012223  # sw x0, 4(x2)
@@ -285,5 +289,5 @@ tls_mac_check_20:
     # back
     .word 0x00008067  # jalr x0, 0(x1)
     .cfi_endproc
-    .size tls_mac_check_20, . - tls_mac_check_20
+    .size factc.tail.1, . - factc.tail.1
     .option pop

@@ -1,4 +1,4 @@
-# tls_mac_check_32: made by factc 1.0.0 function; 238 words, 432 bytes of stack, profile 1
+# tls_mac_check_32: made by factc 1.0.0 function; 213 words and 21 shared, 432 bytes of stack, profile 1
     .option push
     .option norvc
     .option norelax
@@ -47,11 +47,6 @@ tls_mac_check_32:
     .word 0xfe7298e3  # bne x5, x7, -16
     # the body
     .word 0x12012503  # lw x10, 288(x2)
-    .word 0x00000693  # addi x13, x0, 0
-    .word 0x00000993  # addi x19, x0, 0
-    .word 0x00000a13  # addi x20, x0, 0
-    .word 0x002a1a93  # slli x21, x20, 2
-    .word 0x002a8ab3  # add x21, x21, x2
     .word 0x10000293  # addi x5, x0, 256
     .word 0x40a285b3  # sub x11, x5, x10
     .word 0x0025d613  # srli x12, x11, 2
@@ -249,6 +244,18 @@ tls_mac_check_32:
     # the caller's x2
     .word 0x01028293  # addi x5, x5, 16
     .cfi_def_cfa 5, 0
+    # on to the tail that functions share
+    jal x0, factc.tail.1
+    .cfi_endproc
+    .size tls_mac_check_32, . - tls_mac_check_32
+    .section .text.factc.tail.1, "axG", @progbits, factc.tail.1, comdat
+    .p2align 2
+    .globl factc.tail.1
+    .hidden factc.tail.1
+    .type factc.tail.1, @function
+factc.tail.1:
+    .cfi_startproc
+    .cfi_def_cfa 5, 0
     # all the room, wiped upward
     .word 0x00012023  # sw x0, 0(x2)
     .word 0x00012223  # sw x0, 4(x2)
@@ -275,5 +282,5 @@ tls_mac_check_32:
     # back
     .word 0x00008067  # jalr x0, 0(x1)
     .cfi_endproc
-    .size tls_mac_check_32, . - tls_mac_check_32
+    .size factc.tail.1, . - factc.tail.1
     .option pop

@@ -1,4 +1,4 @@
-# x25519: made by factc 1.0.0 function; 820 words, 1344 bytes of stack, profile 1
+# x25519: made by factc 1.0.0 function; 789 words and 21 shared, 1344 bytes of stack, profile 1
     .option push
     .option norvc
     .option norelax
@@ -72,17 +72,7 @@ x25519:
     .word 0x00130313  # addi x6, x6, 1
     .word 0xfe7298e3  # bne x5, x7, -16
     # the body
-    .word 0x00000593  # addi x11, x0, 0
-    .word 0x00000613  # addi x12, x0, 0
-    .word 0x00000813  # addi x16, x0, 0
     .word 0x00000893  # addi x17, x0, 0
-    .word 0x00000a93  # addi x21, x0, 0
-    .word 0x00259c93  # slli x25, x11, 2
-    .word 0x002c8cb3  # add x25, x25, x2
-    .word 0x00281d13  # slli x26, x16, 2
-    .word 0x002d0d33  # add x26, x26, x2
-    .word 0x002a9d93  # slli x27, x21, 2
-    .word 0x002d8db3  # add x27, x27, x2
     .word 0x80000bb7  # lui x23, 0x80000
     .word 0xfffb8b93  # addi x23, x23, -1
     .word 0x000012b7  # lui x5, 0x00001
@@ -781,8 +771,7 @@ x25519:
     .word 0xfe0292e3  # bne x5, x0, -28
     .word 0x09c12283  # lw x5, 156(x2)
     .word 0x014282b3  # add x5, x5, x20
-    .word 0x01f2d293  # srli x5, x5, 31
-    .word 0x405002b3  # sub x5, x0, x5
+    .word 0x41f2d293  # srai x5, x5, 31
     .word 0x0132fa13  # andi x20, x5, 19
     .word 0xfff00813  # addi x16, x0, -1
     .word 0x00180813  # addi x16, x16, 1
@@ -849,6 +838,18 @@ x25519:
     # the caller's x2
     .word 0x04028293  # addi x5, x5, 64
     .cfi_def_cfa 5, 0
+    # on to the tail that functions share
+    jal x0, factc.tail.1
+    .cfi_endproc
+    .size x25519, . - x25519
+    .section .text.factc.tail.1, "axG", @progbits, factc.tail.1, comdat
+    .p2align 2
+    .globl factc.tail.1
+    .hidden factc.tail.1
+    .type factc.tail.1, @function
+factc.tail.1:
+    .cfi_startproc
+    .cfi_def_cfa 5, 0
     # all the room, wiped upward
     .word 0x00012023  # sw x0, 0(x2)
     .word 0x00012223  # sw x0, 4(x2)
@@ -875,5 +876,5 @@ x25519:
     # back
     .word 0x00008067  # jalr x0, 0(x1)
     .cfi_endproc
-    .size x25519, . - x25519
+    .size factc.tail.1, . - factc.tail.1
     .option pop

@@ -1,4 +1,4 @@
-# x25519_step: made by factc 1.0.0 function; 725 words, 1040 bytes of stack, profile 1
+# x25519_step: made by factc 1.0.0 function; 692 words and 21 shared, 1040 bytes of stack, profile 1
     .option push
     .option norvc
     .option norelax
@@ -62,18 +62,6 @@ x25519_step:
     .word 0x00430313  # addi x6, x6, 4
     .word 0xfe7298e3  # bne x5, x7, -16
     # the body
-    .word 0x00000513  # addi x10, x0, 0
-    .word 0x00000593  # addi x11, x0, 0
-    .word 0x00000793  # addi x15, x0, 0
-    .word 0x00000a13  # addi x20, x0, 0
-    .word 0x00251c13  # slli x24, x10, 2
-    .word 0x002c0c33  # add x24, x24, x2
-    .word 0x00259c93  # slli x25, x11, 2
-    .word 0x002c8cb3  # add x25, x25, x2
-    .word 0x00279d13  # slli x26, x15, 2
-    .word 0x002d0d33  # add x26, x26, x2
-    .word 0x002a1d93  # slli x27, x20, 2
-    .word 0x002d8db3  # add x27, x27, x2
     .word 0x80000b37  # lui x22, 0x80000
     .word 0xfffb0b13  # addi x22, x22, -1
     .word 0x0001ebb7  # lui x23, 0x0001e
@@ -676,8 +664,7 @@ x25519_step:
     .word 0x002282b3  # add x5, x5, x2
     .word 0x0c02a283  # lw x5, 192(x5)
     .word 0x012282b3  # add x5, x5, x18
-    .word 0x01f2d293  # srli x5, x5, 31
-    .word 0x405002b3  # sub x5, x0, x5
+    .word 0x41f2d293  # srai x5, x5, 31
     .word 0x0132f913  # andi x18, x5, 19
     .word 0xfff00a13  # addi x20, x0, -1
     .word 0x001a0a13  # addi x20, x20, 1
@@ -703,7 +690,7 @@ x25519_step:
     .word 0x002282b3  # add x5, x5, x2
     .word 0x0c62a023  # sw x6, 192(x5)
     .word 0xffd78293  # addi x5, x15, -3
-    .word 0xf2029ee3  # bne x5, x0, -196
+    .word 0xf40290e3  # bne x5, x0, -192
     .word 0xfff00513  # addi x10, x0, -1
     .word 0x00150513  # addi x10, x10, 1
     .word 0x00251c13  # slli x24, x10, 2
@@ -749,6 +736,18 @@ x25519_step:
     # the caller's x2
     .word 0x04028293  # addi x5, x5, 64
     .cfi_def_cfa 5, 0
+    # on to the tail that functions share
+    jal x0, factc.tail.1
+    .cfi_endproc
+    .size x25519_step, . - x25519_step
+    .section .text.factc.tail.1, "axG", @progbits, factc.tail.1, comdat
+    .p2align 2
+    .globl factc.tail.1
+    .hidden factc.tail.1
+    .type factc.tail.1, @function
+factc.tail.1:
+    .cfi_startproc
+    .cfi_def_cfa 5, 0
     # all the room, wiped upward
     .word 0x00012023  # sw x0, 0(x2)
     .word 0x00012223  # sw x0, 4(x2)
@@ -775,5 +774,5 @@ x25519_step:
     # back
     .word 0x00008067  # jalr x0, 0(x1)
     .cfi_endproc
-    .size x25519_step, . - x25519_step
+    .size factc.tail.1, . - factc.tail.1
     .option pop

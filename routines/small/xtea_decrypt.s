@@ -1,4 +1,4 @@
-# xtea_decrypt: made by factc 1.0.0 function; 87 words, 64 bytes of stack, profile 1
+# xtea_decrypt: made by factc 1.0.0 function; 66 words and 21 shared, 64 bytes of stack, profile 1
     .option push
     .option norvc
     .option norelax
@@ -38,7 +38,6 @@ xtea_decrypt:
     .word 0x0042ae03  # lw x28, 4(x5)
     .word 0x01c32223  # sw x28, 4(x6)
     # the body
-    .word 0x00000693  # addi x13, x0, 0
     .word 0x9e378737  # lui x14, 0x9e378
     .word 0x9b970713  # addi x14, x14, -1607
     .word 0x01012503  # lw x10, 16(x2)
@@ -92,6 +91,18 @@ xtea_decrypt:
     # the caller's x2
     .word 0x01028293  # addi x5, x5, 16
     .cfi_def_cfa 5, 0
+    # on to the tail that functions share
+    jal x0, factc.tail.1
+    .cfi_endproc
+    .size xtea_decrypt, . - xtea_decrypt
+    .section .text.factc.tail.1, "axG", @progbits, factc.tail.1, comdat
+    .p2align 2
+    .globl factc.tail.1
+    .hidden factc.tail.1
+    .type factc.tail.1, @function
+factc.tail.1:
+    .cfi_startproc
+    .cfi_def_cfa 5, 0
     # all the room, wiped upward
     .word 0x00012023  # sw x0, 0(x2)
     .word 0x00012223  # sw x0, 4(x2)
@@ -118,5 +129,5 @@ xtea_decrypt:
     # back
     .word 0x00008067  # jalr x0, 0(x1)
     .cfi_endproc
-    .size xtea_decrypt, . - xtea_decrypt
+    .size factc.tail.1, . - factc.tail.1
     .option pop
