@@ -135,7 +135,8 @@ module _ (z : Setting) (free : ℕ) (aligned : free % 4 ≡ 0) (above : base_of 
         (λ o near.
         let number = sum_known z.laid z.allocation x operator right o near in
         reached z free aligned above place d target source is
-        (sum_part z x size word mutable is sum width has makes uint same number) (omega arith) (lies has place (omega arith) (into_runs has place)))
+        (sum_part z x size word mutable is sum width has makes uint same number) (omega arith)
+        (lies has place (omega arith) (into_runs has place)))
         (λ far.
         reached z free aligned above place d target source is
         (whole_part z x size word mutable is (of_binary {place = sum} {operator = operator} has more makes same))
