@@ -9,11 +9,10 @@ one_more : (ds : List FlatVariable) (i low words : ℕ) (d : FlatVariable) (old 
     → words ≡ words_of (get_or ds i d) → low + 4 * declared_words (drop i ds) ≤ 65536 → new ≡ old ++ low ∷ []
     → (low + 4 * words + 4 * declared_words (drop (i + 1) ds) ≤ 65536)
     × new ++ offsets_from (low + 4 * words) (drop (i + 1) ds) ≡ old ++ offsets_from low (drop i ds)
-one_more ds i low words d old new less is within pushed =
-    (
-      omega (arith, within, is, at_drop_more declared_words ds i d less),
-      rw (pushed, is, at_drop_more (offsets_from low) ds i d less, append_assoc),
-    )
+one_more ds i low words d old new less is within pushed = (
+  omega (arith, within, is, at_drop_more declared_words ds i d less),
+  rw (pushed, is, at_drop_more (offsets_from low) ds i d less, append_assoc),
+)
 
 pub loop-variable-preserved : goal.loop-variable-preserved
 loop-variable-preserved c =

@@ -13,11 +13,10 @@ one_more : (ps : List Param) (i low words : ℕ) (p : Param) (old new : List Slo
     → new ≡ old ++ record { param = get_or ps i p; offset = low } ∷ []
     → (low + 4 * words + 4 * declared_words (map declaration_of (drop (i + 1) ps)) ≤ 65536)
     × new ++ slots_from (low + 4 * words) (drop (i + 1) ps) ≡ old ++ slots_from low (drop i ps)
-one_more ps i low words p old new less is within pushed =
-    (
-      omega (arith, within, is, at_drop_more (λ rest. declared_words (map declaration_of rest)) ps i p less),
-      rw (pushed, is, at_drop_more (slots_from low) ps i p less, append_assoc),
-    )
+one_more ps i low words p old new less is within pushed = (
+  omega (arith, within, is, at_drop_more (λ rest. declared_words (map declaration_of rest)) ps i p less),
+  rw (pushed, is, at_drop_more (slots_from low) ps i p less, append_assoc),
+)
 
 pub loop-parameter-preserved : goal.loop-parameter-preserved
 loop-parameter-preserved c =
