@@ -2,7 +2,7 @@
 
 ghost use Rattle.std.specs.Prelude.{◌≡◌, ℕ, ◌≤◌, length, IfSome, Some};
 ghost use Rattle.codegen.specs.private.Placed.{HasPlace, HavePlaces, IsPlaced};
-ghost use Rattle.codegen.specs.private.WordPuts.{byte_put, is_next, lowest_byte, moved_down, word_put};
+ghost use Rattle.codegen.specs.private.WordPuts.{are_a_word, byte_put, is_next, lowest_byte, moved_down, word_put};
 ghost use Rattle.codegen.specs.Below.{straight_block, straight_tree, term_tree, variable as variable_tree};
 
 use crate::expression_code::{Layout, WORD_BYTES, number};
@@ -98,6 +98,13 @@ fn is_next(low: BytePut, high: BytePut) -> bool
         && u64::from(low.place) + 1 == u64::from(high.place)
 }
 
+/// Whether four bytes that are put are those of a variable, the lowest first, into a word of the frame.
+fn are_a_word(a: BytePut, b: BytePut, c: BytePut, d: BytePut) -> bool
+    ensures { result ≡ are_a_word a b c d }
+{
+    a.place == 0 && a.offset % WORD_BYTES == 0 && is_next(a, b) && is_next(b, c) && is_next(c, d)
+}
+
 /// The word that the first four of some statements put.
 pub fn word_put(layout: &Layout<'_>, statements: &[StraightStatement]) -> Option<WordPut>
     requires { (depth : ℕ) × HavePlaces layout.now depth (straight_block statements.now) }
@@ -112,12 +119,7 @@ pub fn word_put(layout: &Layout<'_>, statements: &[StraightStatement]) -> Option
     let b = byte_put(layout, b)?;
     let c = byte_put(layout, c)?;
     let d = byte_put(layout, d)?;
-    if a.place == 0
-        && a.offset % WORD_BYTES == 0
-        && is_next(a, b)
-        && is_next(b, c)
-        && is_next(c, d)
-    {
+    if are_a_word(a, b, c, d) {
         Some(WordPut {
             offset: a.offset,
             variable: a.variable,

@@ -43,11 +43,14 @@ abbrev pub is_next : BytePut → BytePut → Bool
 is_next low high =
     low.offset + 1 == high.offset && (low.variable == high.variable && low.place + 1 == high.place)
 
+-- whether four bytes are those of a variable, the lowest first, in a word of the frame
+abbrev pub are_a_word : BytePut → BytePut → BytePut → BytePut → Bool
+are_a_word a b c d = (a.place == 0 && a.offset % 4 == 0) && (is_next a b && (is_next b c && is_next c d))
+
 -- the word that four bytes are
 abbrev pub word_of_bytes : Option BytePut → Option BytePut → Option BytePut → Option BytePut → Option WordPut
 word_of_bytes (Some a) (Some b) (Some c) (Some d) =
-    if (a.place == 0 && a.offset % 4 == 0) && (is_next a b && (is_next b c && is_next c d))
-    then Some (record { offset = a.offset; variable = a.variable }) else None
+    if are_a_word a b c d then Some (record { offset = a.offset; variable = a.variable }) else None
 word_of_bytes a b c d = None
 
 -- the word that the first four statements of a block put
