@@ -9,7 +9,6 @@
 mod finding;
 mod replacing;
 mod shapes;
-mod statements;
 mod terms;
 
 pub use replacing::high_products;

@@ -15,6 +15,7 @@ pub mod live_words;
 pub mod needed_variables;
 mod nodes;
 pub mod number_words;
+mod rewriting;
 mod same_words;
 pub mod set_first;
 pub mod set_whole;

@@ -5,11 +5,13 @@ use Rattle.std.proofs.Common.{slice_get, slice_index, refl, sym, ap, ◌∙◌}
 use Rattle.std.proofs.lemmas.Option.{none-some, same_Some}
 use Rattle.optimisation.specs.Below.{AllSuit, array_as, element, FlatVariable, TermHasType, IsResult, of_binary}
 use Rattle.optimisation.specs.Below.{of_conversion, of_element, of_number, of_prefix, of_rotation, of_selection}
-use Rattle.optimisation.specs.Below.{of_truth, of_variable, Place, Profile, TermTree, Types, Values, word_as, WordType}
+use Rattle.optimisation.specs.Below.{of_truth, of_variable, Place, Profile, TermTree, Types, Values, variable}
+use Rattle.optimisation.specs.Below.{word_as, WordType}
 use Rattle.optimisation.specs.declared.element_words.parts.SplitArray.{SplitArray}
 use Rattle.optimisation.specs.element_words.private.Narrowing.{narrowed_at, narrowed, all_narrowed, narrowed_result}
 use Rattle.optimisation.specs.element_words.private.Parts.{Parts, part_of, word_in}
-use Rattle.optimisation.specs.element_words.private.Splitting.{word_or, split}
+use Rattle.optimisation.specs.element_words.private.Splitting.{split}
+use Rattle.optimisation.specs.private.Rewriting.{instead_or}
 use Rattle.optimisation.proofs.element_words_lemmas.Known.{IsKnown, is_number, use_known, before_term, before_terms}
 use Rattle.optimisation.proofs.element_words_lemmas.PartLemmas.{IsBelow, IsSplitting}
 use Rattle.optimisation.proofs.over_lemmas.Values.{same_path, IsAlike, AreAllAlike, IsResultAlike, prefix_alike}
@@ -67,7 +69,7 @@ module _ (declared new : List FlatVariable) (parts : Parts) (is_splitting : IsSp
         → (o : Option SplitArray) → part_of parts x ≡ o → IsKnown o index → {m k : Values} → AreAlike at parts m k
         → IsAlike most m k index (split parts index)
         → IsAlike most m k (element place x size index)
-        (word_or (word_in o index) (element place x size (split parts index)))
+        (instead_or (option_map variable (word_in o index)) (element place x size (split parts index)))
     element_stands place x size index d there None is used alike inner = element_alike (alike.plain x d there is) inner
     element_stands place x size index d there (Some part) is (is_number {value = i} below found) alike inner =
         rw found

@@ -11,8 +11,9 @@ use Rattle.optimisation.specs.Below.{StraightTree, take, TermHasType, TermTree, 
 use Rattle.optimisation.specs.Below.{Values, with_element, with_variable, WordType}
 use Rattle.inline.proofs.Fitting.{value_fits}
 use Rattle.optimisation.specs.declared.high_products.shapes.Factors.{Factors}
-use Rattle.optimisation.specs.high_products.private.Replacing.{product_or, replaced, replaced_all, replaced_in}
+use Rattle.optimisation.specs.high_products.private.Replacing.{product_of, replaced, replaced_all, replaced_in}
 use Rattle.optimisation.specs.high_products.private.Shapes.{upper_word}
+use Rattle.optimisation.specs.private.Rewriting.{instead_or}
 use Rattle.optimisation.proofs.constants_lemmas.Held.{counted_fits, counter_limit, fewer_fit, fits_after}
 use Rattle.optimisation.proofs.constants_lemmas.Held.{fits_after_all}
 use Rattle.optimisation.proofs.constants_lemmas.Same.{iterations_alike}
@@ -29,7 +30,7 @@ module _ (most : List ℕ) where
     -- an expression may be the operator between its factors, where it has some
     with_factors : (e : TermTree) (word : WordType) → TermHasType types e word → (place : Place) (other : TermTree)
         (o : Option Factors) → upper_word e ≡ o → IsAlike most m m e other
-        → IsAlike most m m e (product_or o place other)
+        → IsAlike most m m e (instead_or (option_map (product_of place) o) other)
     with_factors e word has place other None is alike = alike
     with_factors e word has place other (Some f) is alike = record {
       value = same_value m types fits e word has f is;

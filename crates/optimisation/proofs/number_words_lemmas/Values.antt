@@ -5,10 +5,11 @@ use Rattle.std.proofs.Common.{Option, None, Some, option_map, slice_index, refl,
 use Rattle.std.proofs.lemmas.Bool.{and_parts, eqb-true}
 use Rattle.optimisation.specs.Below.{AllSuit, array_as, FlatVariable, IsResult, Kind, number, of_binary, of_conversion}
 use Rattle.optimisation.specs.Below.{of_element, of_number, of_prefix, of_rotation, of_selection, of_truth, of_variable}
-use Rattle.optimisation.specs.Below.{same_kind, TermHasType, TermTree, Types, Values, word_as, WordType}
+use Rattle.optimisation.specs.Below.{same_kind, TermHasType, TermTree, Types, Values, variable, word_as, WordType}
 use Rattle.optimisation.specs.declared.number_words.words.NumberWord.{NumberWord}
 use Rattle.optimisation.specs.number_words.private.Uses.{same_number}
-use Rattle.optimisation.specs.number_words.private.Wording.{variable_or, word_of, worded}
+use Rattle.optimisation.specs.number_words.private.Wording.{word_of, worded}
+use Rattle.optimisation.specs.private.Rewriting.{instead_or}
 use Rattle.optimisation.proofs.number_words_lemmas.Held.{HoldTheirs}
 use Rattle.optimisation.proofs.over_lemmas.Values.{same_path, IsAlike, AreAllAlike, IsResultAlike, prefix_alike}
 use Rattle.optimisation.proofs.over_lemmas.Values.{binary_alike, rotate_alike, convert_alike, select_alike}
@@ -30,7 +31,9 @@ module _ (most : List ℕ) where
       by_number : (b : Bool) → same_number word.number (record { value = value; kind = kind }) ≡ b
           → IsAlike most m k (number value kind) (worded words (number value kind))
           → IsAlike most m k (number value kind)
-          (variable_or (if b then Some word.variable else word_of (record { value = value; kind = kind }) words)
+          (instead_or
+          (option_map variable
+          (if b then Some word.variable else word_of (record { value = value; kind = kind }) words))
           (number value kind))
       by_number true is other =
           let parts = and_parts (word.number.value == value) (same_kind word.number.kind kind) is in

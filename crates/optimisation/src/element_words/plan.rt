@@ -9,7 +9,7 @@ ghost use Rattle.optimisation.specs.element_words.private.Plan.{parts_of, room_b
 use crate::element_words::narrowing::{narrow_by_all, narrow_result};
 use crate::element_words::parts::{SplitArray, SplitArrays};
 use crate::element_words::statements::block;
-use crate::element_words::terms::split_where_any;
+use crate::rewriting::terms::rewritten_where_any;
 use branch_removal::{StraightCode, words_taken};
 use inline::FlatVariable;
 use language::Refusal;
@@ -187,7 +187,7 @@ impl ElementWords {
         ensures memory { IfErr result (λ refusal. IsWantOfMemory refusal.rule refusal.place) }
     {
         let code = block(alloc, &self.parts, straight.body())?;
-        let value = split_where_any(alloc, &self.parts, straight.value())?;
+        let value = rewritten_where_any(alloc, &self.parts, straight.value())?;
         Ok(straight.rewritten(self.declared.as_slice(), code, value))
     }
 }

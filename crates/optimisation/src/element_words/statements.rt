@@ -7,7 +7,7 @@ ghost use Rattle.optimisation.specs.element_words.private.Splitting.{first_value
 ghost use Rattle.optimisation.specs.element_words.private.Splitting.{split, split_all, split_in};
 
 use crate::element_words::parts::{SplitArray, SplitArrays};
-use crate::element_words::terms::{all_split, split};
+use crate::rewriting::terms::{all_rewritten, rewritten};
 use branch_removal::{StraightStatement, branch_of, loop_of};
 use inline::Term;
 use language::Kind;
@@ -37,7 +37,7 @@ fn element_value(
         (map term_tree (drop element values.now)))) }
 {
     match values.get(usize::from(element)) {
-        Some(value) => split(alloc, parts, value),
+        Some(value) => rewritten(alloc, parts, value),
         None => Ok(Term::Number(0, kind)),
     }
 }
@@ -78,7 +78,7 @@ fn new_array(
     match parts.of(array) {
         Some(part) => push_words(alloc, parts, code, part, values),
         None => {
-            let values = all_split(alloc, parts, values)?;
+            let values = all_rewritten(alloc, parts, values)?;
             push(code, StraightStatement::Array(array, size, values))
         }
     }
@@ -97,7 +97,7 @@ fn statement(
 {
     match statement {
         StraightStatement::Set(within, variable, value) => {
-            let value = split(alloc, parts, value)?;
+            let value = rewritten(alloc, parts, value)?;
             push(code, StraightStatement::Set(*within, *variable, value))
         }
         StraightStatement::Array(array, size, values) => {
@@ -105,8 +105,8 @@ fn statement(
         }
         StraightStatement::Put(within, place, array, size, index, value) => {
             let word = parts.word(*array, index);
-            let index = split(alloc, parts, index)?;
-            let value = split(alloc, parts, value)?;
+            let index = rewritten(alloc, parts, index)?;
+            let value = rewritten(alloc, parts, value)?;
             let put = match word {
                 Some(word) => StraightStatement::Set(*within, word, value),
                 None => StraightStatement::Put(*within, *place, *array, *size, index, value),
@@ -114,18 +114,18 @@ fn statement(
             push(code, put)
         }
         StraightStatement::Take(control, within, condition) => {
-            let condition = split(alloc, parts, condition)?;
+            let condition = rewritten(alloc, parts, condition)?;
             push(code, StraightStatement::Take(*control, *within, condition))
         }
         StraightStatement::Branch(condition, accepted, otherwise) => {
-            let condition = split(alloc, parts, condition)?;
+            let condition = rewritten(alloc, parts, condition)?;
             let one = block(alloc, parts, accepted)?;
             let other = block(alloc, parts, otherwise)?;
             push(code, branch_of(condition, one, other))
         }
         StraightStatement::Repeat(counter, low, high, body) => {
-            let low = split(alloc, parts, low)?;
-            let high = split(alloc, parts, high)?;
+            let low = rewritten(alloc, parts, low)?;
+            let high = rewritten(alloc, parts, high)?;
             let iteration = block(alloc, parts, body)?;
             push(code, loop_of(*counter, low, high, iteration))
         }

@@ -6,8 +6,9 @@ ghost use Rattle.optimisation.specs.high_products.Exact.{with_high_products};
 ghost use Rattle.optimisation.specs.high_products.private.Replacing.{replaced_program};
 
 use crate::high_products::finding::program_makes;
-use crate::high_products::statements::block;
-use crate::high_products::terms::replaced_where_any;
+use crate::high_products::terms::UpperWords;
+use crate::rewriting::statements::block;
+use crate::rewriting::terms::rewritten_where_any;
 use branch_removal::StraightCode;
 use language::Refusal;
 use std::alloc::{AllocError, Global};
@@ -20,8 +21,8 @@ fn replaced<'f>(
     ensures replaced { IfOk result (λ made. IfSome made (IsReplaced straight.now)) }
     ensures exact { IfOk result (λ made. made ≡ checked (replaced_program straight.now)) }
 {
-    let code = block(alloc, straight.body())?;
-    let value = replaced_where_any(alloc, straight.value())?;
+    let code = block(alloc, &UpperWords, straight.body())?;
+    let value = rewritten_where_any(alloc, &UpperWords, straight.value())?;
     Ok(straight.rewritten(straight.declared(), code, value))
 }
 

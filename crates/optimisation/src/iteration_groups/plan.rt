@@ -7,7 +7,7 @@ ghost use Rattle.optimisation.specs.iteration_groups.private.Grouping.{base_behi
 
 use crate::element_words::MOST_VARIABLE_WORDS;
 use crate::iteration_groups::statements::{Copying, push_all};
-use crate::iteration_groups::terms::copied_where_any;
+use crate::rewriting::terms::rewritten_where_any;
 use branch_removal::StraightCode;
 use inline::FlatVariable;
 use language::{Kind, Label, Refusal, WordType};
@@ -100,7 +100,7 @@ impl IterationGroups {
             shift: None,
         };
         push_all(copying, &mut code, straight.body())?;
-        let value = copied_where_any(alloc, straight.value())?;
+        let value = rewritten_where_any(alloc, &copying.shift, straight.value())?;
         Ok(straight.rewritten(self.declared.as_slice(), code, value))
     }
 }

@@ -12,7 +12,8 @@ use crate::constants::terms::CounterRange;
 use crate::element_words::SplitArrays;
 use crate::element_words::statements::push;
 use crate::iteration_groups::choice::grouped_range;
-use crate::iteration_groups::terms::{Shift, all_shifted, shifted};
+use crate::iteration_groups::terms::Shift;
+use crate::rewriting::terms::{all_rewritten, rewritten};
 use branch_removal::{StraightStatement, branch_of, loop_of};
 use inline::Term;
 use language::{BinaryOperator, Kind};
@@ -85,27 +86,27 @@ fn statement(
     let Copying { alloc, shift, .. } = copying;
     match statement {
         StraightStatement::Set(within, variable, value) => {
-            let value = shifted(alloc, shift, value)?;
+            let value = rewritten(alloc, &shift, value)?;
             push(code, StraightStatement::Set(*within, *variable, value))
         }
         StraightStatement::Array(array, size, values) => {
-            let values = all_shifted(alloc, shift, values)?;
+            let values = all_rewritten(alloc, &shift, values)?;
             push(code, StraightStatement::Array(*array, *size, values))
         }
         StraightStatement::Put(within, place, array, size, index, value) => {
-            let index = shifted(alloc, shift, index)?;
-            let value = shifted(alloc, shift, value)?;
+            let index = rewritten(alloc, &shift, index)?;
+            let value = rewritten(alloc, &shift, value)?;
             push(
                 code,
                 StraightStatement::Put(*within, *place, *array, *size, index, value),
             )
         }
         StraightStatement::Take(control, within, condition) => {
-            let condition = shifted(alloc, shift, condition)?;
+            let condition = rewritten(alloc, &shift, condition)?;
             push(code, StraightStatement::Take(*control, *within, condition))
         }
         StraightStatement::Branch(condition, accepted, otherwise) => {
-            let condition = shifted(alloc, shift, condition)?;
+            let condition = rewritten(alloc, &shift, condition)?;
             let one = block(copying, accepted)?;
             let other = block(copying, otherwise)?;
             push(code, branch_of(condition, one, other))
@@ -142,8 +143,8 @@ fn push_loop(
             return push_groups(alloc, code, each, body);
         }
     }
-    let low = shifted(alloc, shift, low)?;
-    let high = shifted(alloc, shift, high)?;
+    let low = rewritten(alloc, &shift, low)?;
+    let high = rewritten(alloc, &shift, high)?;
     let iteration = block(copying, body)?;
     push(code, loop_of(counter, low, high, iteration))
 }

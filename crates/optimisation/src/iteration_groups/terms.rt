@@ -1,10 +1,10 @@
 // Expressions in which a counter is so much more than the base of its group.
 
-ghost use Rattle.std.specs.Prelude.{◌≡◌, map, IfOk, Option};
-ghost use Rattle.std.specs.Option.{option_map};
+ghost use Rattle.std.specs.Prelude.{◌≡◌, IfOk};
 ghost use Rattle.optimisation.specs.Below.{term_tree};
-ghost use Rattle.optimisation.specs.iteration_groups.private.Grouping.{counter_at, shifted, variable_at};
+ghost use Rattle.optimisation.specs.iteration_groups.private.Grouping.{counter_at, variable_at};
 
+use crate::rewriting::Rewriting;
 use inline::Term;
 use language::{BinaryOperator, Kind};
 use std::alloc::{AllocError, Global};
@@ -44,77 +44,23 @@ fn variable_at(alloc: Global, shift: Option<Shift>, variable: u32) -> Result<Ter
     }
 }
 
-/// An expression.
-#[cycle(shifted)]
-pub fn shifted(alloc: Global, shift: Option<Shift>, term: &Term) -> Result<Term, AllocError>
-    ensures { IfOk result (λ made. term_tree made ≡ shifted shift (term_tree term.now)) }
-{
-    match term {
-        Term::Number(value, kind) => Ok(Term::Number(*value, *kind)),
-        Term::Truth(value) => Ok(Term::Truth(*value)),
-        Term::Variable(variable) => variable_at(alloc, shift, *variable),
-        Term::Prefix(operator, width, operand) => {
-            let operand = boxed(alloc, shift, operand)?;
-            Ok(Term::Prefix(*operator, *width, operand))
-        }
-        Term::Binary(place, operator, width, left, right) => {
-            let left = boxed(alloc, shift, left)?;
-            let right = boxed(alloc, shift, right)?;
-            Ok(Term::Binary(*place, *operator, *width, left, right))
-        }
-        Term::Rotate(width, operand, amount) => {
-            let operand = boxed(alloc, shift, operand)?;
-            Ok(Term::Rotate(*width, operand, *amount))
-        }
-        Term::Convert(kind, operand) => {
-            let operand = boxed(alloc, shift, operand)?;
-            Ok(Term::Convert(*kind, operand))
-        }
-        Term::Select(condition, accepted, otherwise) => {
-            let condition = boxed(alloc, shift, condition)?;
-            let accepted = boxed(alloc, shift, accepted)?;
-            let otherwise = boxed(alloc, shift, otherwise)?;
-            Ok(Term::Select(condition, accepted, otherwise))
-        }
-        Term::Element(place, array, size, index) => {
-            let index = boxed(alloc, shift, index)?;
-            Ok(Term::Element(*place, *array, *size, index))
-        }
-    }
-}
+/// The counter of a group, with its number in its place; in no group nothing is changed.
+impl Rewriting for Option<Shift> {
+    ghost use Rattle.optimisation.specs.iteration_groups.private.Grouping.{counter_instead};
 
-/// The same, in a box of its own.
-#[cycle(shifted)]
-fn boxed(alloc: Global, shift: Option<Shift>, term: &Term) -> Result<Box<Term>, AllocError>
-    ensures { IfOk result (λ made. term_tree made.value ≡ shifted shift (term_tree term.now)) }
-{
-    let made = shifted(alloc, shift, term)?;
-    Ok(Box::new(alloc, made)?)
-}
+    ghost rule = { counter_instead };
 
-/// Expressions, in their order.
-pub fn all_shifted(
-    alloc: Global,
-    shift: Option<Shift>,
-    terms: &[Term],
-) -> Result<Vec<Term>, AllocError>
-    ensures { IfOk result (λ made.
-        map term_tree made.items ≡ map (shifted shift) (map term_tree terms.now)) }
-{
-    let mut made = Vec::new(alloc);
-    for term in terms {
-        made.push(shifted(alloc, shift, term)?)?;
-    }
-    Ok(made)
-}
-
-/// An expression, where there is one, as it is.
-pub fn copied_where_any(alloc: Global, term: Option<&Term>) -> Result<Option<Term>, AllocError>
-    ensures { IfOk result (λ made. option_map term_tree made
-        ≡ option_map (shifted None) (option_map (λ term. term_tree term.now) term.entry)) }
-{
-    match term {
-        Some(term) => Ok(Some(shifted(alloc, None, term)?)),
-        None => Ok(None),
+    fn instead(&self, alloc: Global, term: &Term) -> Result<Option<Term>, AllocError> {
+        match term {
+            Term::Variable(variable) => Ok(Some(variable_at(alloc, *self, *variable)?)),
+            Term::Number(_, _)
+            | Term::Truth(_)
+            | Term::Prefix(_, _, _)
+            | Term::Binary(_, _, _, _, _)
+            | Term::Rotate(_, _, _)
+            | Term::Convert(_, _)
+            | Term::Select(_, _, _)
+            | Term::Element(_, _, _, _) => Ok(None),
+        }
     }
 }

@@ -6,10 +6,12 @@ ghost use Rattle.optimisation.specs.number_words.Exact.{numbers_as_words, number
 ghost use Rattle.optimisation.specs.number_words.private.Plan.{is_worth, variable_of, chosen, words_in};
 
 use crate::element_words::MOST_VARIABLE_WORDS;
-use crate::number_words::statements::{push_all, settings};
-use crate::number_words::terms::worded_where_any;
+use crate::number_words::statements::settings;
+use crate::number_words::terms::Wording;
 use crate::number_words::uses::{NumberUse, number_uses};
 use crate::number_words::words::NumberWord;
+use crate::rewriting::statements::push_all;
+use crate::rewriting::terms::rewritten_where_any;
 use branch_removal::StraightCode;
 use inline::FlatVariable;
 use language::{Label, Refusal, WordType};
@@ -132,8 +134,9 @@ impl NumberWords {
     {
         let words = self.words.as_slice();
         let mut code = settings(alloc, words)?;
-        push_all(alloc, words, &mut code, straight.body())?;
-        let value = worded_where_any(alloc, words, straight.value())?;
+        let wording = Wording { words };
+        push_all(alloc, &wording, &mut code, straight.body())?;
+        let value = rewritten_where_any(alloc, &wording, straight.value())?;
         Ok(straight.rewritten(self.declared.as_slice(), code, value))
     }
 }

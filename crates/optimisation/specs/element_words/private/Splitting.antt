@@ -1,28 +1,19 @@
 -- Code in which arrays are so many words.
 use Rattle.std.specs.Prelude.{ℕ, zero, suc, ◌+◌, List, [], ◌∷◌, drop, map, Option, None, Some}
-use Rattle.optimisation.specs.Below.{array, binary, branch, chain, convert, element, first, Kind, nothing, number}
-use Rattle.optimisation.specs.Below.{Place, prefix, put, repeats, rotate, select, set, StraightBlock, StraightTree}
-use Rattle.optimisation.specs.Below.{take, TermTree, truth, variable}
+use Rattle.std.specs.Option.{option_map}
+use Rattle.optimisation.specs.Below.{array, branch, chain, element, first, Kind, nothing, number, Place, put, repeats}
+use Rattle.optimisation.specs.Below.{set, StraightBlock, StraightTree, take, TermTree, variable}
 use Rattle.optimisation.specs.declared.element_words.parts.SplitArray.{SplitArray}
 use Rattle.optimisation.specs.element_words.private.Parts.{Parts, part_of, word_of}
+use Rattle.optimisation.specs.private.Rewriting.{rewritten}
 
--- a word, where there is one, else an expression
-abbrev pub word_or : Option ℕ → TermTree → TermTree
-word_or None e = e
-word_or (Some word) e = variable word
+-- a word stands in the place of an element
+abbrev pub word_instead : Parts → TermTree → Option TermTree
+word_instead parts (element place x size index) = option_map variable (word_of parts x index)
+word_instead parts _ = None
 
 abbrev pub split : Parts → TermTree → TermTree
-split parts (number value kind) = number value kind
-split parts (truth value) = truth value
-split parts (variable x) = variable x
-split parts (prefix operator width operand) = prefix operator width (split parts operand)
-split parts (binary place operator width left right) =
-    binary place operator width (split parts left) (split parts right)
-split parts (rotate width operand amount) = rotate width (split parts operand) amount
-split parts (convert kind operand) = convert kind (split parts operand)
-split parts (select condition accepted otherwise) =
-    select (split parts condition) (split parts accepted) (split parts otherwise)
-split parts (element place x size index) = word_or (word_of parts x index) (element place x size (split parts index))
+split parts = rewritten (word_instead parts)
 
 abbrev pub single : StraightTree → StraightBlock
 single statement = first statement nothing

@@ -1,5 +1,5 @@
 -- Whether code makes an upper word of a product, and the code in which each that it makes is an operator.
-use Rattle.std.specs.Prelude.{◌||◌, Bool, false, is_some, List, [], ◌∷◌, map, Option, None, Some}
+use Rattle.std.specs.Prelude.{◌||◌, Bool, false, is_some, List, [], ◌∷◌, Option, None, Some}
 use Rattle.std.specs.Option.{option_map}
 use Rattle.optimisation.specs.Below.{array, binary, branch, convert, element, first, HighProduct, nothing, number}
 use Rattle.optimisation.specs.Below.{Place}
@@ -7,6 +7,7 @@ use Rattle.optimisation.specs.Below.{prefix, put, repeats, rotate, select, set, 
 use Rattle.optimisation.specs.Below.{StraightTree, take, TermTree, truth, variable, W32, with_variables}
 use Rattle.optimisation.specs.declared.high_products.shapes.Factors.{Factors}
 use Rattle.optimisation.specs.high_products.private.Shapes.{upper_word}
+use Rattle.optimisation.specs.private.Rewriting.{rewritten, rewritten_all, rewritten_in}
 
 -- Whether code makes one.
 
@@ -52,38 +53,20 @@ program_makes p = one_makes_in p.body || makes_where_any p.value
 abbrev pub product_of : Place → Factors → TermTree
 product_of place f = binary place HighProduct W32 (variable f.one) (variable f.other)
 
--- where there are two, else an expression
-abbrev pub product_or : Option Factors → Place → TermTree → TermTree
-product_or None place e = e
-product_or (Some f) place e = product_of place f
+-- it stands in the place of an upper word
+abbrev pub product_instead : TermTree → Option TermTree
+product_instead (binary place operator width left right) =
+    option_map (product_of place) (upper_word (binary place operator width left right))
+product_instead _ = None
 
 abbrev pub replaced : TermTree → TermTree
-replaced (number value kind) = number value kind
-replaced (truth value) = truth value
-replaced (variable x) = variable x
-replaced (prefix operator width operand) = prefix operator width (replaced operand)
-replaced (binary place operator width left right) =
-    product_or (upper_word (binary place operator width left right)) place
-    (binary place operator width (replaced left) (replaced right))
-replaced (rotate width operand amount) = rotate width (replaced operand) amount
-replaced (convert kind operand) = convert kind (replaced operand)
-replaced (select condition accepted otherwise) =
-    select (replaced condition) (replaced accepted) (replaced otherwise)
-replaced (element place x size index) = element place x size (replaced index)
+replaced = rewritten product_instead
 
-abbrev mutual
-  pub replaced_in : StraightTree → StraightTree
-  replaced_in (set within x value) = set within x (replaced value)
-  replaced_in (array x size values) = array x size (map replaced values)
-  replaced_in (put within place x size index value) = put within place x size (replaced index) (replaced value)
-  replaced_in (take control within condition) = take control within (replaced condition)
-  replaced_in (branch condition accepted otherwise) =
-      branch (replaced condition) (replaced_all accepted) (replaced_all otherwise)
-  replaced_in (repeats x low high body) = repeats x (replaced low) (replaced high) (replaced_all body)
+abbrev pub replaced_in : StraightTree → StraightTree
+replaced_in = rewritten_in product_instead
 
-  pub replaced_all : StraightBlock → StraightBlock
-  replaced_all nothing = nothing
-  replaced_all (first statement rest) = first (replaced_in statement) (replaced_all rest)
+abbrev pub replaced_all : StraightBlock → StraightBlock
+replaced_all = rewritten_all product_instead
 
 abbrev pub replaced_program : StraightProgram → StraightProgram
 replaced_program p = with_variables p p.declared (replaced_all p.body) (option_map replaced p.value)

@@ -6,15 +6,16 @@ use Rattle.std.specs.Prelude.{ℕ, zero, suc, ◌+◌, ◌-◌, ◌/◌, ◌%◌
 use Rattle.std.specs.Prelude.{Option, None, Some, true, if◌then◌else◌}
 use Rattle.std.specs.Option.{option_and_then, option_map}
 use Rattle.word.specs.Places.{origin}
-use Rattle.optimisation.specs.Below.{Add, array, binary, branch, chain, checked, convert, element, first}
-use Rattle.optimisation.specs.Below.{FlatVariable, labelled, nothing, number, prefix, Public, put, repeats, rotate}
-use Rattle.optimisation.specs.Below.{select, set, ShiftLeft, StraightBlock, StraightProgram, StraightTree, take}
-use Rattle.optimisation.specs.Below.{TermTree, truth, Uint32, variable, W32, with_variables, word_as}
+use Rattle.optimisation.specs.Below.{Add, array, binary, branch, chain, checked, first, FlatVariable, labelled}
+use Rattle.optimisation.specs.Below.{nothing, number, Public, put, repeats, set, ShiftLeft, StraightBlock}
+use Rattle.optimisation.specs.Below.{StraightProgram, StraightTree, take, TermTree, Uint32, variable, W32}
+use Rattle.optimisation.specs.Below.{with_variables, word_as}
 use Rattle.optimisation.specs.element_words.Limits.{most_variable_words}
 use Rattle.optimisation.specs.element_words.private.Splitting.{single}
 use Rattle.optimisation.specs.declared.constants.terms.CounterRange.{CounterRange}
 use Rattle.optimisation.specs.declared.iteration_groups.terms.Shift.{Shift}
 use Rattle.optimisation.specs.iteration_groups.private.Choice.{grouped_range}
+use Rattle.optimisation.specs.private.Rewriting.{rewritten}
 
 -- the number of a counter: the base and an offset
 abbrev pub counter_at : Shift → TermTree
@@ -24,19 +25,14 @@ abbrev pub variable_at : Option Shift → ℕ → TermTree
 variable_at None y = variable y
 variable_at (Some shift) y = if shift.counter == y then counter_at shift else variable y
 
+-- it stands in the place of a variable
+abbrev pub counter_instead : Option Shift → TermTree → Option TermTree
+counter_instead shift (variable y) = Some (variable_at shift y)
+counter_instead shift _ = None
+
 -- an expression, with the number of the counter in its place
 abbrev pub shifted : Option Shift → TermTree → TermTree
-shifted shift (number value kind) = number value kind
-shifted shift (truth value) = truth value
-shifted shift (variable y) = variable_at shift y
-shifted shift (prefix operator width operand) = prefix operator width (shifted shift operand)
-shifted shift (binary place operator width left right) =
-    binary place operator width (shifted shift left) (shifted shift right)
-shifted shift (rotate width operand amount) = rotate width (shifted shift operand) amount
-shifted shift (convert kind operand) = convert kind (shifted shift operand)
-shifted shift (select condition accepted otherwise) =
-    select (shifted shift condition) (shifted shift accepted) (shifted shift otherwise)
-shifted shift (element place x size index) = element place x size (shifted shift index)
+shifted shift = rewritten (counter_instead shift)
 
 -- a word is set to a number
 abbrev pub number_set : ℕ → ℕ → StraightTree
