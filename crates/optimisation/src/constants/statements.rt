@@ -28,14 +28,6 @@ pub struct Pass<'p> {
     pub declared: &'p [FlatVariable],
 }
 
-/// The counter of a loop and its bounds.
-#[derive(Clone, Copy)]
-struct LoopBounds<'b> {
-    counter: u32,
-    low: &'b Term,
-    high: &'b Term,
-}
-
 /// Puts a statement behind a block.
 fn push(code: &mut Vec<StraightStatement>, statement: StraightStatement) -> Result<(), AllocError>
     ensures { OnOk result (straight_block code.new.items
@@ -109,12 +101,7 @@ fn statement(
             branch(pass, known, code, condition, accepted, otherwise)
         }
         StraightStatement::Repeat(counter, low, high, body) => {
-            let bounds = LoopBounds {
-                counter: *counter,
-                low,
-                high,
-            };
-            repeat(pass, known, code, bounds, body)
+            repeat(pass, known, code, *counter, low, high, body)
         }
     }
 }
@@ -155,22 +142,23 @@ fn repeat(
     pass: &Pass<'_>,
     known: &mut KnownWords,
     code: &mut Vec<StraightStatement>,
-    bounds: LoopBounds<'_>,
+    counter: u32,
+    low: &Term,
+    high: &Term,
     body: &[StraightStatement],
 ) -> Result<(), AllocError>
     ensures code { OnOk result (straight_block code.new.items
         ≡ chain (straight_block code.old.items)
         (simplified pass.now.unroll_limits.now pass.now.declared.now (words_of known.old)
-        (straight.repeats bounds.entry.counter (term_tree bounds.entry.low.now) (term_tree bounds.entry.high.now)
+        (straight.repeats counter (term_tree low.now) (term_tree high.now)
         (straight_block body.now)))) }
     ensures known { OnOk result (words_of known.new
         ≡ knowing pass.now.unroll_limits.now pass.now.declared.now (words_of known.old)
-        (straight.repeats bounds.entry.counter (term_tree bounds.entry.low.now) (term_tree bounds.entry.high.now)
+        (straight.repeats counter (term_tree low.now) (term_tree high.now)
         (straight_block body.now))) }
 {
-    let counter = bounds.counter;
-    let low = simple(pass.alloc, known, bounds.low)?;
-    let high = simple(pass.alloc, known, bounds.high)?;
+    let low = simple(pass.alloc, known, low)?;
+    let high = simple(pass.alloc, known, high)?;
     let most = unroll_limit_of(pass.unroll_limits, counter);
     match numbers_of(most, &low, &high) {
         Some(numbers) => iterations(pass, known, code, counter, numbers, body),
