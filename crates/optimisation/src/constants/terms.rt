@@ -297,29 +297,8 @@ fn convert(alloc: Global, kind: Kind, operand: Term) -> Result<Term, AllocError>
     }
 }
 
-/// The one of two that is chosen, where the condition is a number; else the choice between them.
-fn select(
-    alloc: Global,
-    condition: Term,
-    accepted: Term,
-    otherwise: Term,
-) -> Result<Term, AllocError>
-    ensures { IfOk result (λ term. term_tree term
-        ≡ chosen (decision (term_tree condition)) (term_tree condition) (term_tree accepted) (term_tree otherwise)) }
-{
-    match decision(&condition) {
-        Some(true) => Ok(accepted),
-        Some(false) => Ok(otherwise),
-        None => {
-            let condition = Box::new(alloc, condition)?;
-            let accepted = Box::new(alloc, accepted)?;
-            let otherwise = Box::new(alloc, otherwise)?;
-            Ok(Term::Select(condition, accepted, otherwise))
-        }
-    }
-}
-
 /// An expression, where this is known of the variables.
+#[cycle(simple)]
 pub fn simple(alloc: Global, known: &KnownWords, term: &Term) -> Result<Term, AllocError>
     ensures { IfOk result (λ simpler. term_tree simpler ≡ simple (words_of known.now) (term_tree term.now)) }
 {
@@ -349,15 +328,49 @@ pub fn simple(alloc: Global, known: &KnownWords, term: &Term) -> Result<Term, Al
         }
         Term::Select(condition, accepted, otherwise) => {
             let condition = simple(alloc, known, condition)?;
-            let accepted = simple(alloc, known, accepted)?;
-            let otherwise = simple(alloc, known, otherwise)?;
-            select(alloc, condition, accepted, otherwise)
+            select(alloc, known, condition, accepted, otherwise)
         }
         Term::Element(place, array, size, index) => {
-            let index = Box::new(alloc, simple(alloc, known, index)?)?;
+            let index = boxed(alloc, known, index)?;
             Ok(Term::Element(*place, *array, *size, index))
         }
     }
+}
+
+/// The one of two that is chosen, where the condition is a number; else the choice between them.
+#[cycle(simple)]
+fn select(
+    alloc: Global,
+    known: &KnownWords,
+    condition: Term,
+    accepted: &Term,
+    otherwise: &Term,
+) -> Result<Term, AllocError>
+    ensures { IfOk result (λ term. term_tree term
+        ≡ chosen (decision (term_tree condition)) (term_tree condition)
+        (simple (words_of known.now) (term_tree accepted.now))
+        (simple (words_of known.now) (term_tree otherwise.now))) }
+{
+    match decision(&condition) {
+        Some(true) => simple(alloc, known, accepted),
+        Some(false) => simple(alloc, known, otherwise),
+        None => {
+            let condition = Box::new(alloc, condition)?;
+            let accepted = boxed(alloc, known, accepted)?;
+            let otherwise = boxed(alloc, known, otherwise)?;
+            Ok(Term::Select(condition, accepted, otherwise))
+        }
+    }
+}
+
+/// An expression, in a box of its own.
+#[cycle(simple)]
+fn boxed(alloc: Global, known: &KnownWords, term: &Term) -> Result<Box<Term>, AllocError>
+    ensures { IfOk result (λ simpler.
+        term_tree simpler.value ≡ simple (words_of known.now) (term_tree term.now)) }
+{
+    let simpler = simple(alloc, known, term)?;
+    Ok(Box::new(alloc, simpler)?)
 }
 
 /// Expressions, in their order.
