@@ -16,24 +16,11 @@ use branch_removal::{StraightStatement, branch_of, loop_of};
 use inline::Term;
 use std::alloc::{AllocError, Global};
 
-/// The counter of a loop and its bounds.
-#[derive(Clone, Copy)]
-struct LoopBounds<'b> {
-    counter: u32,
-    low: &'b Term,
-    high: &'b Term,
-}
-
-impl LoopBounds<'_> {
-    /// Whether both are numbers.
-    fn are_numbers(&self) -> bool
-        ensures { result ≡ are_numbers (term_tree self.now.low.now) (term_tree self.now.high.now) }
-    {
-        matches!(
-            (self.low, self.high),
-            (Term::Number(_, _), Term::Number(_, _))
-        )
-    }
+/// Whether both bounds of a loop are numbers.
+fn are_numbers(low: &Term, high: &Term) -> bool
+    ensures { result ≡ are_numbers (term_tree low.now) (term_tree high.now) }
+{
+    matches!((low, high), (Term::Number(_, _), Term::Number(_, _)))
 }
 
 /// Before an array's element is set.
@@ -145,12 +132,7 @@ fn statement(
             branch(alloc, live, table, condition, accepted, otherwise)
         }
         StraightStatement::Repeat(counter, low, high, body) => {
-            let bounds = LoopBounds {
-                counter: *counter,
-                low,
-                high,
-            };
-            repeat(alloc, live, table, bounds, body)
+            repeat(alloc, live, table, *counter, low, high, body)
         }
     }
 }
@@ -187,27 +169,28 @@ fn repeat(
     alloc: Global,
     live: &mut Live,
     table: &[u32],
-    bounds: LoopBounds<'_>,
+    counter: u32,
+    low: &Term,
+    high: &Term,
     body: &[StraightStatement],
 ) -> Result<Option<StraightStatement>, AllocError>
     ensures code { IfOk result (λ code. option_map straight_tree code
-        ≡ shared table.now (held_by live.old) (straight.repeats bounds.entry.counter (term_tree bounds.entry.low.now)
-        (term_tree bounds.entry.high.now) (straight_block body.now))) }
+        ≡ shared table.now (held_by live.old)
+        (straight.repeats counter (term_tree low.now) (term_tree high.now) (straight_block body.now))) }
     ensures live { OnOk result (held_by live.new ≡ before table.now (held_by live.old)
-        (straight.repeats bounds.entry.counter (term_tree bounds.entry.low.now) (term_tree bounds.entry.high.now)
-        (straight_block body.now))) }
+        (straight.repeats counter (term_tree low.now) (term_tree high.now) (straight_block body.now))) }
 {
-    gather_loop(alloc, live, table, bounds.counter, body)?;
+    gather_loop(alloc, live, table, counter, body)?;
     let head = live.copy_holders(alloc)?;
-    live.count(table, bounds.counter, bounds.are_numbers());
+    live.count(table, counter, are_numbers(low, high));
     let iteration = statements(alloc, live, table, body)?;
-    live.close(table, bounds.counter, head);
-    read(live, table, &[], bounds.high);
-    read(live, table, &[], bounds.low);
-    let low = renamed(alloc, table, bounds.low)?;
-    let high = renamed(alloc, table, bounds.high)?;
-    let counter = share(table, bounds.counter);
-    Ok(Some(loop_of(counter, low, high, iteration)))
+    live.close(table, counter, head);
+    read(live, table, &[], high);
+    read(live, table, &[], low);
+    let low = renamed(alloc, table, low)?;
+    let high = renamed(alloc, table, high)?;
+    let shared = share(table, counter);
+    Ok(Some(loop_of(shared, low, high, iteration)))
 }
 
 /// Statements, from the last one back to the first.
