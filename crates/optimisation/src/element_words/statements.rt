@@ -7,6 +7,7 @@ ghost use Rattle.optimisation.specs.element_words.private.Splitting.{first_value
 ghost use Rattle.optimisation.specs.element_words.private.Splitting.{split, split_all, split_in};
 
 use crate::element_words::parts::{SplitArray, SplitArrays};
+use crate::rewriting::statements::rewritten_statement;
 use crate::rewriting::terms::{all_rewritten, rewritten};
 use branch_removal::{StraightStatement, branch_of, loop_of};
 use inline::Term;
@@ -96,9 +97,9 @@ fn statement(
         ≡ chain (straight_block code.old.items) (split_in parts.now.arrays.items (straight_tree statement.now))) }
 {
     match statement {
-        StraightStatement::Set(within, variable, value) => {
-            let value = rewritten(alloc, parts, value)?;
-            push(code, StraightStatement::Set(*within, *variable, value))
+        StraightStatement::Set(_, _, _) | StraightStatement::Take(_, _, _) => {
+            let made = rewritten_statement(alloc, parts, statement)?;
+            push(code, made)
         }
         StraightStatement::Array(array, size, values) => {
             new_array(alloc, parts, code, *array, *size, values)
@@ -112,10 +113,6 @@ fn statement(
                 None => StraightStatement::Put(*within, *place, *array, *size, index, value),
             };
             push(code, put)
-        }
-        StraightStatement::Take(control, within, condition) => {
-            let condition = rewritten(alloc, parts, condition)?;
-            push(code, StraightStatement::Take(*control, *within, condition))
         }
         StraightStatement::Branch(condition, accepted, otherwise) => {
             let condition = rewritten(alloc, parts, condition)?;

@@ -13,7 +13,8 @@ use crate::element_words::SplitArrays;
 use crate::element_words::statements::push;
 use crate::iteration_groups::choice::grouped_range;
 use crate::iteration_groups::terms::Shift;
-use crate::rewriting::terms::{all_rewritten, rewritten};
+use crate::rewriting::statements::rewritten_statement;
+use crate::rewriting::terms::rewritten;
 use branch_removal::{StraightStatement, branch_of, loop_of};
 use inline::Term;
 use language::{BinaryOperator, Kind};
@@ -85,25 +86,12 @@ fn statement(
 {
     let Copying { alloc, shift, .. } = copying;
     match statement {
-        StraightStatement::Set(within, variable, value) => {
-            let value = rewritten(alloc, &shift, value)?;
-            push(code, StraightStatement::Set(*within, *variable, value))
-        }
-        StraightStatement::Array(array, size, values) => {
-            let values = all_rewritten(alloc, &shift, values)?;
-            push(code, StraightStatement::Array(*array, *size, values))
-        }
-        StraightStatement::Put(within, place, array, size, index, value) => {
-            let index = rewritten(alloc, &shift, index)?;
-            let value = rewritten(alloc, &shift, value)?;
-            push(
-                code,
-                StraightStatement::Put(*within, *place, *array, *size, index, value),
-            )
-        }
-        StraightStatement::Take(control, within, condition) => {
-            let condition = rewritten(alloc, &shift, condition)?;
-            push(code, StraightStatement::Take(*control, *within, condition))
+        StraightStatement::Set(_, _, _)
+        | StraightStatement::Array(_, _, _)
+        | StraightStatement::Put(_, _, _, _, _, _)
+        | StraightStatement::Take(_, _, _) => {
+            let made = rewritten_statement(alloc, &shift, statement)?;
+            push(code, made)
         }
         StraightStatement::Branch(condition, accepted, otherwise) => {
             let condition = rewritten(alloc, &shift, condition)?;

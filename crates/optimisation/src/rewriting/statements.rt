@@ -11,7 +11,7 @@ use std::alloc::{AllocError, Global};
 
 /// A statement.
 #[cycle(statements)]
-fn statement<R: Rewriting>(
+pub fn rewritten_statement<R: Rewriting>(
     alloc: Global,
     rewriting: &R,
     statement: &StraightStatement,
@@ -64,7 +64,7 @@ pub fn push_all<R: Rewriting>(
         ≡ chain (straight_block code.old.items) (rewritten_all (R.rule rewriting.now) (straight_block body.now))) }
 {
     for each in body {
-        code.push(statement(alloc, rewriting, each)?)?;
+        code.push(rewritten_statement(alloc, rewriting, each)?)?;
     }
     Ok(())
 }

@@ -42,7 +42,7 @@ statement-block-requires t c =
     search (
       rules,
       accepted_smaller c.in-Branch.accepted c.in-Branch.otherwise c.in-Branch.is
-          c.deref-in-Branch.ensures.value refl,
+          c.deref.ensures.value refl,
     )
 
 pub statement-block-requires-in-Branch : goal.statement-block-requires-in-Branch
@@ -50,7 +50,7 @@ statement-block-requires-in-Branch t c =
     search (
       rules,
       otherwise_smaller c.in-Branch.accepted c.in-Branch.otherwise c.in-Branch.is refl
-          c.deref-in-Branch-2.ensures.value,
+          c.deref-in-Branch.ensures.value,
     )
 
 pub statement-push_loop-requires : goal.statement-push_loop-requires
@@ -60,13 +60,13 @@ statement-push_loop-requires t c =
 pub statement-returns-in_ok-other-in-Branch : goal.statement-returns-in_ok-other-in-Branch
 statement-returns-in_ok-other-in-Branch t c =
     rw (
-      tree_of_branch c.in-Branch.accepted c.in-Branch.otherwise c.in-Branch.is c.deref-in-Branch.ensures.value
-          c.deref-in-Branch-2.ensures.value,
+      tree_of_branch c.in-Branch.accepted c.in-Branch.otherwise c.in-Branch.is c.deref.ensures.value
+          c.deref-in-Branch.ensures.value,
       ← c.in_ok-condition-in-Branch.ensures,
       ← c.in_ok-one-in-Branch.ensures,
       ← c.in_ok-other-in-Branch.ensures,
       ← c.branch_of.ensures,
-    ) c.push-in-Branch.ensures
+    ) c.push.ensures
 
 pub statement-returns-in-Repeat : goal.statement-returns-in-Repeat
 statement-returns-in-Repeat t c =

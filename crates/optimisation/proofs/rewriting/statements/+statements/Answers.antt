@@ -5,35 +5,35 @@ use Rattle.branch_removal.proofs.StatementTrees.{tree_of_branch, tree_of_loop, a
 use Rattle.branch_removal.proofs.StatementTrees.{body_smaller, chain-nothing, chain-push, item_here, smaller_here}
 use Rattle.optimisation.proofs.rewriting.statements.+statements.Goals as goal
 
-pub push_all-statement-requires : goal.push_all-statement-requires
-push_all-statement-requires g t c =
+pub push_all-rewritten_statement-requires : goal.push_all-rewritten_statement-requires
+push_all-rewritten_statement-requires g t c =
     let s = c.each-item.result in
     let l = c.loop-each in
     let here = item_here c.args.body.now l.each-index s c.loop-each-test.true c.each-item.is in
     search (rules, smaller_here c.args.body.now l.each-index s here)
 
-pub statement-block-requires : goal.statement-block-requires
-statement-block-requires g t c =
+pub rewritten_statement-block-requires : goal.rewritten_statement-block-requires
+rewritten_statement-block-requires g t c =
     search (
       rules,
       accepted_smaller c.in-Branch.accepted c.in-Branch.otherwise c.in-Branch.is
           c.deref-in-Branch.ensures.value refl,
     )
 
-pub statement-block-requires-in-Branch : goal.statement-block-requires-in-Branch
-statement-block-requires-in-Branch g t c =
+pub rewritten_statement-block-requires-in-Branch : goal.rewritten_statement-block-requires-in-Branch
+rewritten_statement-block-requires-in-Branch g t c =
     search (
       rules,
       otherwise_smaller c.in-Branch.accepted c.in-Branch.otherwise c.in-Branch.is refl
           c.deref-in-Branch-2.ensures.value,
     )
 
-pub statement-block-requires-in-Repeat : goal.statement-block-requires-in-Repeat
-statement-block-requires-in-Repeat g t c =
+pub rewritten_statement-block-requires-in-Repeat : goal.rewritten_statement-block-requires-in-Repeat
+rewritten_statement-block-requires-in-Repeat g t c =
     search (rules, body_smaller c.in-Repeat.body c.in-Repeat.is c.deref-in-Repeat.ensures.value)
 
-pub statement-returns-in_ok-other-in-Branch : goal.statement-returns-in_ok-other-in-Branch
-statement-returns-in_ok-other-in-Branch g t c =
+pub rewritten_statement-returns-in_ok-other-in-Branch : goal.rewritten_statement-returns-in_ok-other-in-Branch
+rewritten_statement-returns-in_ok-other-in-Branch g t c =
     rw (
       tree_of_branch c.in-Branch.accepted c.in-Branch.otherwise c.in-Branch.is c.deref-in-Branch.ensures.value
           c.deref-in-Branch-2.ensures.value,
@@ -42,8 +42,8 @@ statement-returns-in_ok-other-in-Branch g t c =
       ← c.in_ok-other-in-Branch.ensures,
     ) c.branch_of.ensures
 
-pub statement-returns-in_ok-iteration-in-Repeat : goal.statement-returns-in_ok-iteration-in-Repeat
-statement-returns-in_ok-iteration-in-Repeat g t c =
+pub rewritten_statement-returns-in_ok-iteration-in-Repeat : goal.rewritten_statement-returns-in_ok-iteration-in-Repeat
+rewritten_statement-returns-in_ok-iteration-in-Repeat g t c =
     rw (
       tree_of_loop c.in-Repeat.body c.in-Repeat.is c.deref-in-Repeat.ensures.value,
       ← c.in_ok-low-in-Repeat.ensures,
@@ -55,7 +55,7 @@ pub push_all-loop-each-preserved : goal.push_all-loop-each-preserved
 push_all-loop-each-preserved g t c =
     let l = c.loop-each in
     let here = item_here c.args.body.now l.each-index c.each-item.result c.loop-each-test.true c.each-item.is in
-    rw (c.in_ok-push.ensures.items, chain-push, c.in_ok-statement.ensures, ← l.invariant, here) refl
+    rw (c.in_ok-push.ensures.items, chain-push, c.in_ok-rewritten_statement.ensures, ← l.invariant, here) refl
 
 pub push_all-returns : goal.push_all-returns
 push_all-returns g t c =

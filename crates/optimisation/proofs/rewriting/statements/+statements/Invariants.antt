@@ -13,8 +13,8 @@ invariant-push_all-loop-each g l =
 
 -- Each call is for a part of what it is called in.
 
-abbrev pub decreases-statement : goal.decreases-statement
-decreases-statement g l = 3 * statement_nodes (straight_tree l.statement.now)
+abbrev pub decreases-rewritten_statement : goal.decreases-rewritten_statement
+decreases-rewritten_statement g l = 3 * statement_nodes (straight_tree l.statement.now)
 
 abbrev pub decreases-push_all : goal.decreases-push_all
 decreases-push_all g l = 3 * block_nodes (straight_block l.body.now) + 1
