@@ -1,4 +1,6 @@
 use Rattle.std.proofs.Common.{rules, refl}
+use Rattle.std.proofs.lemmas.List.{at_drop_all}
+use Rattle.optimisation.specs.Below.{straight_block}
 use Rattle.branch_removal.proofs.StatementTrees.{tree_of_branch, tree_of_loop, accepted_smaller, otherwise_smaller}
 use Rattle.branch_removal.proofs.StatementTrees.{body_smaller, item_here, smaller_here}
 use Rattle.optimisation.proofs.set_first.+order.Goals as goal
@@ -54,3 +56,26 @@ sets_first-returns-in_ok-each-in-Repeat t c =
       c.note.ensures,
       c.in_ok-inside-in-Repeat.ensures.items,
     )
+
+pub all_set_first-loop-statement-preserved : goal.all_set_first-loop-statement-preserved
+all_set_first-loop-statement-preserved t c =
+    let l = c.loop-statement in
+    let here = item_here c.args.body.now l.statement-index c.statement-item.result c.loop-statement-test.true
+    c.statement-item.is in
+    let fine = rw c.as_slice.ensures.value at c.in_ok-sets_first.ensures in
+    (
+      rw (c.note_set_by.ensures, ← l.invariant.0, here, ← fine, c.if-not-branch.false) refl,
+      rw (c.note_set_by.ensures, ← l.invariant.1, here) refl,
+    )
+
+pub all_set_first-returns-clause-first : goal.all_set_first-returns-clause-first
+all_set_first-returns-clause-first t c =
+    let l = c.loop-statement in
+    let none = at_drop_all (λ xs. straight_block xs) c.args.body.now l.statement-index c.loop-statement-test.false in
+    rw (← l.invariant.0, none) refl
+
+pub all_set_first-returns-clause-known : goal.all_set_first-returns-clause-known
+all_set_first-returns-clause-known t c =
+    let l = c.loop-statement in
+    let none = at_drop_all (λ xs. straight_block xs) c.args.body.now l.statement-index c.loop-statement-test.false in
+    λ first. rw (← l.invariant.1, none) refl

@@ -1,4 +1,6 @@
 use Rattle.std.proofs.Common.{rules, refl}
+use Rattle.std.proofs.lemmas.List.{at_drop_all}
+use Rattle.optimisation.specs.Below.{straight_block}
 use Rattle.branch_removal.proofs.StatementTrees.{tree_of_branch, tree_of_loop, accepted_smaller, otherwise_smaller}
 use Rattle.branch_removal.proofs.StatementTrees.{body_smaller, item_here, smaller_here}
 use Rattle.optimisation.proofs.live_words.gathering.+gathering.Goals as goal
@@ -52,3 +54,16 @@ gather_all-gather-requires t c =
     let l = c.loop-statement in
     let here = item_here c.args.body.now l.statement-index s c.loop-statement-test.true c.statement-item.is in
     search (rules, smaller_here c.args.body.now l.statement-index s here)
+
+pub gather_all-loop-statement-preserved : goal.gather_all-loop-statement-preserved
+gather_all-loop-statement-preserved t c =
+    let l = c.loop-statement in
+    let here = item_here c.args.body.now l.statement-index c.statement-item.result c.loop-statement-test.true
+    c.statement-item.is in
+    rw (c.in_ok-gather.ensures, c.note_done_by.ensures, c.as_slice.ensures.value, ← l.invariant, here) refl
+
+pub gather_all-returns : goal.gather_all-returns
+gather_all-returns t c =
+    let l = c.loop-statement in
+    let none = at_drop_all (λ xs. straight_block xs) c.args.body.now l.statement-index c.loop-statement-test.false in
+    rw (← l.invariant, none) refl

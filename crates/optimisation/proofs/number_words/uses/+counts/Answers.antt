@@ -1,5 +1,6 @@
 use Rattle.std.proofs.Common.{rules, ◌≡◌, ℕ, List, refl, sym, ap, subst, ◌∙◌}
 use Rattle.std.specs.Prelude.{OnOk}
+use Rattle.std.proofs.lemmas.List.{at_drop_all}
 use Rattle.branch_removal.proofs.StatementTrees.{tree_of_branch, tree_of_loop, accepted_smaller, otherwise_smaller}
 use Rattle.branch_removal.proofs.StatementTrees.{body_smaller, item_here, smaller_here}
 use Rattle.optimisation.specs.Below.{straight_block, StraightTree, term_tree}
@@ -62,3 +63,17 @@ count_by_all-count_by-requires t c =
     let l = c.loop-statement in
     let here = item_here c.args.statements.now l.statement-index s c.loop-statement-test.true c.statement-item.is in
     search (rules, smaller_here c.args.statements.now l.statement-index s here)
+
+pub count_by_all-loop-statement-preserved : goal.count_by_all-loop-statement-preserved
+count_by_all-loop-statement-preserved t c =
+    let l = c.loop-statement in
+    let here = item_here c.args.statements.now l.statement-index c.statement-item.result c.loop-statement-test.true
+    c.statement-item.is in
+    rw (c.in_ok-count_by.ensures, ← l.invariant, here) refl
+
+pub count_by_all-returns : goal.count_by_all-returns
+count_by_all-returns t c =
+    let l = c.loop-statement in
+    let none = at_drop_all (λ xs. straight_block xs) c.args.statements.now l.statement-index
+    c.loop-statement-test.false in
+    rw (← l.invariant, none) refl

@@ -1,4 +1,6 @@
 use Rattle.std.proofs.Common.{◌≡◌, ◌+◌, ◌-◌, suc, rules, refl, arith}
+use Rattle.std.proofs.lemmas.List.{at_drop_all}
+use Rattle.optimisation.specs.Below.{straight_block}
 use Rattle.branch_removal.proofs.StatementTrees.{tree_of_branch, tree_of_loop, accepted_smaller, otherwise_smaller}
 use Rattle.branch_removal.proofs.StatementTrees.{body_smaller, item_here, smaller_here}
 use Rattle.optimisation.proofs.set_whole.watch.ArrayWatch.+watching.Goals as goal
@@ -93,3 +95,16 @@ pub watch_iterations-returns : goal.watch_iterations-returns
 watch_iterations-returns t c =
     let none : c.args.range.high - c.loop-number.number ≡ 0 = omega (arith, c.loop-number-test.false) in
     rw (← c.loop-number.invariant, none) refl
+
+pub watch_all-loop-statement-preserved : goal.watch_all-loop-statement-preserved
+watch_all-loop-statement-preserved t c =
+    let l = c.loop-statement in
+    let here = item_here c.args.body.now l.statement-index c.statement-item.result c.loop-statement-test.true
+    c.statement-item.is in
+    rw (← l.invariant, here, c.in_ok-watch.ensures, c.if-not-branch.false) refl
+
+pub watch_all-returns : goal.watch_all-returns
+watch_all-returns t c =
+    let l = c.loop-statement in
+    let none = at_drop_all (λ xs. straight_block xs) c.args.body.now l.statement-index c.loop-statement-test.false in
+    rw (← l.invariant, none) refl
