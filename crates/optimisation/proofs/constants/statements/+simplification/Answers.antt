@@ -95,3 +95,61 @@ pub iterations-returns-clause-known : goal.iterations-returns-clause-known
 iterations-returns-clause-known t c =
     let none : c.args.numbers.high - c.loop-value.value ≡ 0 = omega (arith, c.loop-value-test.false) in
     rw (← c.loop-value.invariant.known, none) refl
+
+pub branch-returns-in-Some-true-clause-code : goal.branch-returns-in-Some-true-clause-code
+branch-returns-in-Some-true-clause-code t c =
+    rw (← c.in_ok-condition.ensures, ← c.in-Some-true.ensures, c.in-Some-true.field-0-test)
+    c.statements.ensures.code
+
+pub branch-returns-in-Some-true-clause-known : goal.branch-returns-in-Some-true-clause-known
+branch-returns-in-Some-true-clause-known t c =
+    rw (← c.in_ok-condition.ensures, ← c.in-Some-true.ensures, c.in-Some-true.field-0-test)
+    c.statements.ensures.known
+
+pub branch-returns-in-Some-false-clause-code : goal.branch-returns-in-Some-false-clause-code
+branch-returns-in-Some-false-clause-code t c =
+    rw (← c.in_ok-condition.ensures, ← c.in-Some-false.ensures, c.in-Some-false.field-0-test)
+    c.statements-in-Some-false.ensures.code
+
+pub branch-returns-in-Some-false-clause-known : goal.branch-returns-in-Some-false-clause-known
+branch-returns-in-Some-false-clause-known t c =
+    rw (← c.in_ok-condition.ensures, ← c.in-Some-false.ensures, c.in-Some-false.field-0-test)
+    c.statements-in-Some-false.ensures.known
+
+pub repeat-returns-in-Some-clause-code : goal.repeat-returns-in-Some-clause-code
+repeat-returns-in-Some-clause-code t c =
+    rw (← c.in_ok-low.ensures, ← c.in_ok-high.ensures, ← c.unroll_limit_of-most.ensures, ← c.in-Some.ensures)
+    c.iterations.ensures.code
+
+pub repeat-returns-in-Some-clause-known : goal.repeat-returns-in-Some-clause-known
+repeat-returns-in-Some-clause-known t c =
+    rw (← c.in_ok-low.ensures, ← c.in_ok-high.ensures, ← c.unroll_limit_of-most.ensures, ← c.in-Some.ensures)
+    c.iterations.ensures.known
+
+pub repeat-returns-in_ok-iteration-in-None-clause-code : goal.repeat-returns-in_ok-iteration-in-None-clause-code
+repeat-returns-in_ok-iteration-in-None-clause-code t c =
+    rw (
+      ← c.in_ok-low.ensures,
+      ← c.in_ok-high.ensures,
+      ← c.unroll_limit_of-most.ensures,
+      ← c.in-None.ensures,
+      ← c.begin_loop.ensures,
+      ← c.in_ok-iteration-in-None.ensures.code,
+      ← c.loop_of.ensures,
+    ) c.push.ensures
+
+pub statement-returns-in_ok-value-in-Put-clause-code : goal.statement-returns-in_ok-value-in-Put-clause-code
+statement-returns-in_ok-value-in-Put-clause-code t c =
+    rw (c.in-Put.is, ← c.in_ok-index-in-Put.ensures, ← c.in_ok-value-in-Put.ensures) c.push-in-Put.ensures
+
+pub statement-returns-in_ok-condition-in-Take-clause-code : goal.statement-returns-in_ok-condition-in-Take-clause-code
+statement-returns-in_ok-condition-in-Take-clause-code t c =
+    rw (c.in-Take.is, ← c.in_ok-condition-in-Take.ensures) c.push-in-Take.ensures
+
+pub statement-returns-in-Set-clause-code : goal.statement-returns-in-Set-clause-code
+statement-returns-in-Set-clause-code t c =
+    rw (c.in-Set.is) c.set_simple.ensures.code
+
+pub statement-returns-in-Set-clause-known : goal.statement-returns-in-Set-clause-known
+statement-returns-in-Set-clause-known t c =
+    rw (c.in-Set.is) c.set_simple.ensures.known

@@ -1,4 +1,4 @@
-use Rattle.std.proofs.Common.{rules, ◌≡◌, ◌+◌, ◌-◌, length, arith}
+use Rattle.std.proofs.Common.{rules, ◌≡◌, ◌+◌, ◌-◌, length, refl, arith}
 use Rattle.branch_removal.proofs.StatementTrees.{tree_of_branch, tree_of_loop, arms_smaller, body_smaller, item_here}
 use Rattle.branch_removal.proofs.StatementTrees.{smaller_here}
 use Rattle.optimisation.proofs.live_words.statements.+sharing.Goals as goal
@@ -64,3 +64,41 @@ statements-loop-behind-preserved t c =
       );
       live = rw (c.in_ok-code.ensures.live, l.invariant.live, more, less, here);
     }
+
+pub branch-returns-clause-code : goal.branch-returns-clause-code
+branch-returns-clause-code t c =
+    rw (
+      c.branch_of.ensures,
+      c.in_ok-condition.ensures,
+      c.in_ok-one.ensures.code,
+      c.in_ok-other.ensures.code,
+      c.replace-second.ensures.live,
+      ← c.in_ok-other.ensures.live,
+      c.in_ok-behind.ensures,
+    ) refl
+
+pub branch-returns-clause-live : goal.branch-returns-clause-live
+branch-returns-clause-live t c =
+    rw (
+      c.read.ensures,
+      c.join.ensures,
+      c.as_slice.ensures.value,
+      c.in_ok-one.ensures.live,
+      c.replace-second.ensures.live,
+      c.replace-second.ensures.before,
+      ← c.in_ok-other.ensures.live,
+      c.in_ok-behind.ensures,
+    ) refl
+
+pub repeat-returns-clause-code : goal.repeat-returns-clause-code
+repeat-returns-clause-code t c =
+    rw (
+      c.loop_of.ensures,
+      c.share-shared.ensures,
+      c.in_ok-low.ensures,
+      c.in_ok-high.ensures,
+      c.in_ok-iteration.ensures.code,
+      c.count.ensures,
+      c.are_numbers.ensures,
+      ← c.in_ok-gather_loop.ensures,
+    ) refl
