@@ -18,7 +18,7 @@ pub use Rattle.language.specs.Tree.{RightTree, statement_tree, StatementTree, wr
 pub use Rattle.language.specs.Types.{are_alike, are_met, asked_of_one, asked_of_three, asked_of_two, at, because}
 pub use Rattle.language.specs.Types.{because_of, callee, declared, declared_at, empty, found, is_hidden, is_secret}
 pub use Rattle.language.specs.Types.{of_one, of_three, of_two, Scope, typed_as, unless, variable, when, widths_differ}
-pub use Rattle.language.specs.Types.{word}
+pub use Rattle.language.specs.Types.{with_typed, word}
 pub use Rattle.language.specs.Typing.{argument_declared, argument_rules, argument_variable, argument_violations}
 pub use Rattle.language.specs.Typing.{argument_why, arguments_violations, array_name, array_violations}
 pub use Rattle.language.specs.Typing.{assignment_violations, block_violations, bounds_rules, call_type, call_violations}

@@ -115,7 +115,13 @@ fn note_element_assignment(
     ensures { findings.new ≡ fold noted findings.old
         (element_assignment_violations change.control change.place change.declared_at variable element given) }
 {
-    let (Some(variable), Some(element), Some(given)) = (variable, element, given) else {
+    let Some(variable) = variable else {
+        return;
+    };
+    let Some(element) = element else {
+        return;
+    };
+    let Some(given) = given else {
         return;
     };
     let wanted = WordType {

@@ -87,9 +87,8 @@ pub fn binary(
     ensures findings { findings.new ≡ fold noted findings.old
         (asked_of_two (operands_why (operation_of operator)) place (binary_rules profile operator) left right) }
 {
-    let (Some(left), Some(right)) = (left, right) else {
-        return None;
-    };
+    let left = left?;
+    let right = right?;
     let operation = operator.operation();
     let (one, other) = (left.value, right.value);
     let types = ComparedTypes::Two(
@@ -186,9 +185,9 @@ pub fn choice(
     ensures findings { findings.new
         ≡ fold noted findings.old (asked_of_three choice_why place select_rules condition accepted otherwise) }
 {
-    let (Some(condition), Some(accepted), Some(otherwise)) = (condition, accepted, otherwise) else {
-        return None;
-    };
+    let condition = condition?;
+    let accepted = accepted?;
+    let otherwise = otherwise?;
     let (chooser, one, other) = (condition.value, accepted.value, otherwise.value);
     let types = ComparedTypes::Choice(chooser, one, other);
     let literal = either_literal(accepted, otherwise);
@@ -220,9 +219,8 @@ pub fn element(
     ensures findings { findings.new
         ≡ fold noted findings.old (asked_of_two element_why place element_rules array index) }
 {
-    let (Some(array), Some(index)) = (array, index) else {
-        return None;
-    };
+    let array = array?;
+    let index = index?;
     let types = ComparedTypes::Two(
         typed_part(Part::Variable, array.value),
         typed_part(Part::Index, index.value),

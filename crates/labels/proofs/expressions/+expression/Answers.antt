@@ -1,4 +1,5 @@
 use Rattle.std.proofs.Common.{◌∙◌, None, ap, ap₂, fold, sym}
+use Rattle.std.proofs.lemmas.List.Sums.{fold-append}
 use Rattle.labels.specs.Below.{binary_type, convert_type, element_type, expr_tree, expr_violations, literal_in}
 use Rattle.labels.specs.Below.{name_type, of_one, of_three, of_two, prefix_type, rotate_type, secret_in, secret_name}
 use Rattle.labels.specs.Below.{select_type, noted, type_of, typed_of}
@@ -100,3 +101,68 @@ returns-in-Element-clause-findings t c =
     ∙ ap (λ e. fold noted c.name-array.new.findings (expr_violations n (expr_tree e))) c.deref-in-Element.ensures)
     c.element.ensures.findings
     ∙ ap (λ e. fold noted c.args.findings.now (expr_violations n (expr_tree e))) (sym c.in-Element.is)
+
+pub returns-in-Prefix-clause-findings : goal.returns-in-Prefix-clause-findings
+returns-in-Prefix-clause-findings t c =
+    simp (
+      c.in-Prefix.is,
+      fold-append noted,
+      c.prefix.ensures.findings,
+      c.expression-operand.ensures.findings,
+      c.expression-operand.ensures.typed,
+      c.deref.ensures,
+    )
+
+pub returns-in-Binary-clause-findings : goal.returns-in-Binary-clause-findings
+returns-in-Binary-clause-findings t c =
+    simp (
+      c.in-Binary.is,
+      fold-append noted,
+      c.binary.ensures.findings,
+      c.expression-right.ensures.findings,
+      c.expression-left.ensures.findings,
+      c.expression-left.ensures.typed,
+      c.expression-right.ensures.typed,
+      c.deref-in-Binary.ensures,
+      c.deref-in-Binary-2.ensures,
+      c.profile.ensures,
+    )
+
+pub returns-in-Rotate-clause-findings : goal.returns-in-Rotate-clause-findings
+returns-in-Rotate-clause-findings t c =
+    simp (
+      c.in-Rotate.is,
+      fold-append noted,
+      c.rotate.ensures.findings,
+      c.expression-operand-in-Rotate.ensures.findings,
+      c.expression-operand-in-Rotate.ensures.typed,
+      c.deref-in-Rotate.ensures,
+    )
+
+pub returns-in-Convert-clause-findings : goal.returns-in-Convert-clause-findings
+returns-in-Convert-clause-findings t c =
+    simp (
+      c.in-Convert.is,
+      fold-append noted,
+      c.convert.ensures.findings,
+      c.expression-operand-in-Convert.ensures.findings,
+      c.expression-operand-in-Convert.ensures.typed,
+      c.deref-in-Convert.ensures,
+    )
+
+pub returns-in-Select-clause-findings : goal.returns-in-Select-clause-findings
+returns-in-Select-clause-findings t c =
+    simp (
+      c.in-Select.is,
+      fold-append noted,
+      c.choice.ensures.findings,
+      c.expression-otherwise.ensures.findings,
+      c.expression-accepted.ensures.findings,
+      c.expression-condition.ensures.findings,
+      c.expression-condition.ensures.typed,
+      c.expression-accepted.ensures.typed,
+      c.expression-otherwise.ensures.typed,
+      c.deref-in-Select.ensures,
+      c.deref-in-Select-2.ensures,
+      c.deref-in-Select-3.ensures,
+    )
