@@ -10,8 +10,7 @@ ghost use Rattle.source_eval.specs.Views.{held, value_of, word_of};
 ghost use Rattle.source_eval.specs.declared.fault.EvalFault.TheVariants.{Memory};
 
 use crate::EvalFault;
-use crate::running::RunningBody;
-use crate::statements::body;
+use crate::statements::run_body;
 use crate::values::{Value, Word};
 use crate::variables::Variables;
 use language::arguments::{ArgumentFault, first_fault_of};
@@ -115,15 +114,9 @@ fn run_export(
 {
     let parameters = export.parameters.as_slice();
     let variables = holding(alloc, parameters, args)?;
-    let mut running = RunningBody {
-        alloc,
-        left: *left,
-        variables,
-    };
-    let returned = body(earlier, MOST_BODIES - 1, &mut running, export)?;
-    *left = running.left;
-    let arrays = final_arrays(alloc, &running.variables, parameters)?;
-    Ok(Outcome::new(number(returned), arrays))
+    let (word, ended) = run_body(alloc, earlier, MOST_BODIES - 1, left, variables, export)?;
+    let arrays = final_arrays(alloc, &ended, parameters)?;
+    Ok(Outcome::new(number(word), arrays))
 }
 
 /// What an export gives on arguments behind the earlier procedures, as `eval`.

@@ -1,7 +1,8 @@
 // The values of expressions.
 
-ghost use Rattle.std.specs.Prelude.{map, IfOk, IfErr};
-ghost use Rattle.source_eval.specs.Below.{expr_tree, parameter_tree, passed, value, values, word_arguments};
+ghost use Rattle.std.specs.Prelude.{◌+◌, map, IfOk, IfErr};
+ghost use Rattle.source_eval.specs.Below.{binary as binary_tree, expr_tree, parameter_tree, passed};
+ghost use Rattle.source_eval.specs.Below.{select as select_tree, value, values, word_arguments};
 ghost use Rattle.source_eval.specs.Metering.{EndedWithin, Stopped};
 ghost use Rattle.source_eval.specs.Views.{held, word_of};
 
@@ -10,11 +11,61 @@ use crate::operators::{binary, convert, prefix, rotate, select};
 use crate::spending::spend;
 use crate::values::Word;
 use crate::variables::Variables;
-use language::{Expr, Form, Kind, Parameter};
+use language::{BinaryOperator, Expr, Form, Kind, Parameter, Place};
 use std::alloc::Global;
+
+/// The value of an operator between two operands, once its own node is counted.
+#[tactic(auto, unfolding(language::specs::Evaluation::tick, language::specs::Evaluation::andthen))]
+#[cycle(value)]
+fn binary_value(
+    variables: &Variables<'_>,
+    left: &mut u64,
+    place: Place,
+    operator: BinaryOperator,
+    one: &Expr,
+    other: &Expr,
+) -> Result<Word, EvalFault>
+    ensures ok { IfOk result (λ w. EndedWithin
+        (value (held variables.now) (binary_tree place operator (expr_tree one.now) (expr_tree other.now)))
+        (left.old + 1) 0 (word_of w) left.new) }
+    ensures err { IfErr result (λ fault. Stopped
+        (value (held variables.now) (binary_tree place operator (expr_tree one.now) (expr_tree other.now)))
+        (left.old + 1) 0 fault) }
+{
+    let one = value(variables, left, one)?;
+    let other = value(variables, left, other)?;
+    binary(place, operator, one, other)
+}
+
+/// The value of a choice, once its own node is counted.
+#[tactic(auto, unfolding(language::specs::Evaluation::tick, language::specs::Evaluation::andthen))]
+#[cycle(value)]
+fn select_value(
+    variables: &Variables<'_>,
+    left: &mut u64,
+    place: Place,
+    condition: &Expr,
+    accepted: &Expr,
+    otherwise: &Expr,
+) -> Result<Word, EvalFault>
+    ensures ok { IfOk result (λ w. EndedWithin
+        (value (held variables.now)
+        (select_tree place (expr_tree condition.now) (expr_tree accepted.now) (expr_tree otherwise.now)))
+        (left.old + 1) 0 (word_of w) left.new) }
+    ensures err { IfErr result (λ fault. Stopped
+        (value (held variables.now)
+        (select_tree place (expr_tree condition.now) (expr_tree accepted.now) (expr_tree otherwise.now)))
+        (left.old + 1) 0 fault) }
+{
+    let condition = value(variables, left, condition)?;
+    let accepted = value(variables, left, accepted)?;
+    let otherwise = value(variables, left, otherwise)?;
+    Ok(select(condition, accepted, otherwise))
+}
 
 /// The value of an expression.
 #[tactic(auto, unfolding(language::specs::Evaluation::tick, language::specs::Evaluation::andthen))]
+#[cycle(value)]
 pub fn value(variables: &Variables<'_>, left: &mut u64, expr: &Expr) -> Result<Word, EvalFault>
     ensures ok { IfOk result (λ w.
         EndedWithin (value (held variables.now) (expr_tree expr.now)) left.old 0 (word_of w) left.new) }
@@ -36,9 +87,7 @@ pub fn value(variables: &Variables<'_>, left: &mut u64, expr: &Expr) -> Result<W
             Ok(prefix(*operator, operand))
         }
         Expr::Binary(place, operator, one, other) => {
-            let one = value(variables, left, one)?;
-            let other = value(variables, left, other)?;
-            binary(*place, *operator, one, other)
+            binary_value(variables, left, *place, *operator, one, other)
         }
         Expr::Rotate(_, operand, amount) => {
             let operand = value(variables, left, operand)?;
@@ -48,11 +97,8 @@ pub fn value(variables: &Variables<'_>, left: &mut u64, expr: &Expr) -> Result<W
             let operand = value(variables, left, operand)?;
             Ok(convert(*kind, operand))
         }
-        Expr::Select(_, condition, accepted, otherwise) => {
-            let condition = value(variables, left, condition)?;
-            let accepted = value(variables, left, accepted)?;
-            let otherwise = value(variables, left, otherwise)?;
-            Ok(select(condition, accepted, otherwise))
+        Expr::Select(place, condition, accepted, otherwise) => {
+            select_value(variables, left, *place, condition, accepted, otherwise)
         }
         Expr::Element(place, _, name, index) => {
             let index = value(variables, left, index)?;

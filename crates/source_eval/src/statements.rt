@@ -89,15 +89,8 @@ fn call<'a>(
         return Err(EvalFault::Budget);
     };
     let variables = begun(alloc, caller, parameters, arguments, words.as_slice())?;
-    let mut inner = RunningBody {
-        alloc,
-        left: running.left,
-        variables,
-    };
-    let word = body(before, room, &mut inner, callee)?;
-    running.left = inner.left;
-    let caller = &mut running.variables;
-    copy_out(caller, &inner.variables, parameters, arguments)?;
+    let (word, inner) = run_body(alloc, before, room, &mut running.left, variables, callee)?;
+    copy_out(&mut running.variables, &inner, parameters, arguments)?;
     Ok(word)
 }
 
@@ -128,7 +121,7 @@ fn end(
 /// A procedure's body and its `return`.
 #[tactic(auto, using(crate::proofs::RunLemmas::value_opens, crate::proofs::RunLemmas::return_opens), unfolding(language::specs::Evaluation::tick, language::specs::Evaluation::andthen))]
 #[cycle(statement)]
-pub fn body<'a>(
+fn body<'a>(
     earlier: &'a [Procedure],
     room: u32,
     running: &mut RunningBody<'a>,
@@ -143,6 +136,33 @@ pub fn body<'a>(
 {
     block(earlier, room, running, &procedure.body)?;
     end(&running.variables, &mut running.left, &procedure.returned)
+}
+
+/// A body that runs in variables of its own: what it returns, and what they hold at its end.
+#[cycle(statement)]
+pub fn run_body<'a>(
+    alloc: Global,
+    earlier: &'a [Procedure],
+    room: u32,
+    left: &mut u64,
+    variables: Variables<'a>,
+    procedure: &'a Procedure,
+) -> Result<(Option<Word>, Variables<'a>), EvalFault>
+    ensures ok { IfOk result (λ end. EndedWithin
+        (body_run (known_of earlier.now) (procedure_tree procedure.now) (held variables.entry))
+        left.old room (returned end.0 (held end.1)) left.new) }
+    ensures err { IfErr result (λ fault. Stopped
+        (body_run (known_of earlier.now) (procedure_tree procedure.now) (held variables.entry))
+        left.old room fault) }
+{
+    let mut running = RunningBody {
+        alloc,
+        left: *left,
+        variables,
+    };
+    let word = body(earlier, room, &mut running, procedure)?;
+    *left = running.left;
+    Ok((word, running.variables))
 }
 
 /// A right side.

@@ -5,7 +5,7 @@ use Rattle.source_eval.specs.Views.{held}
 use Rattle.source_eval.proofs.RunLemmas.{value_counts}
 use Rattle.source_eval.proofs.expressions.+value.Goals as goal
 
-pub returns-in_err-spend-clause-err : goal.returns-in_err-spend-clause-err
-returns-in_err-spend-clause-err t c =
+pub value-returns-in_err-spend-clause-err : goal.value-returns-in_err-spend-clause-err
+value-returns-in_err-spend-clause-err t c =
     let counts = value_counts (held c.args.variables.now) (expr_tree c.args.expr.now) in
     grind (arith, common_steps)

@@ -95,7 +95,7 @@ call-returns-clause-ok t c =
     c.in-Some.ensures c.in_ok-spend.ensures.ok c.as_slice-parameters.ensures.value
     c.as_slice-arguments.ensures.value (map word_of c.in_ok-words.words.items) _ c.in_ok-words.ensures.ok
     c.in-Some-checked_sub.room _ (omega (arith, c.in-Some-checked_sub.ensures)) begins _
-    (held c.body.new.running.variables) _ _ c.in_ok-word.ensures.ok c.in_ok-copy_out.ensures.ok
+    (held c.in_ok-word.inner) _ _ c.in_ok-word.ensures.ok c.in_ok-copy_out.ensures.ok
 
 pub repeat-returns-in_err-spend-clause-err : goal.repeat-returns-in_err-spend-clause-err
 repeat-returns-in_err-spend-clause-err t c =

@@ -7,31 +7,34 @@ use Rattle.source_eval.proofs.statements.+statement.Given as goal
 
 -- each way from a statement to itself counts a node
 abbrev pub decreases-block : goal.decreases-block
-decreases-block l = 5 * l.running.now.left + 3
+decreases-block l = 6 * l.running.now.left + 3
 
 abbrev pub decreases-body : goal.decreases-body
-decreases-body l = 5 * l.running.now.left + 4
+decreases-body l = 6 * l.running.now.left + 4
 
 abbrev pub decreases-branch : goal.decreases-branch
-decreases-branch l = 5 * l.running.now.left + 0
+decreases-branch l = 6 * l.running.now.left + 0
 
 abbrev pub decreases-call : goal.decreases-call
-decreases-call l = 5 * l.running.now.left + 0
+decreases-call l = 6 * l.running.now.left + 0
 
 abbrev pub decreases-repeat : goal.decreases-repeat
-decreases-repeat l = 5 * l.running.now.left + 0
+decreases-repeat l = 6 * l.running.now.left + 0
 
 abbrev pub decreases-right : goal.decreases-right
-decreases-right l = 5 * l.running.now.left + 1
+decreases-right l = 6 * l.running.now.left + 1
+
+abbrev pub decreases-run_body : goal.decreases-run_body
+decreases-run_body l = 6 * l.left.now + 5
 
 abbrev pub decreases-set : goal.decreases-set
-decreases-set l = 5 * l.running.now.left + 0
+decreases-set l = 6 * l.running.now.left + 0
 
 abbrev pub decreases-set_element : goal.decreases-set_element
-decreases-set_element l = 5 * l.running.now.left + 0
+decreases-set_element l = 6 * l.running.now.left + 0
 
 abbrev pub decreases-statement : goal.decreases-statement
-decreases-statement l = 5 * l.running.now.left + 2
+decreases-statement l = 6 * l.running.now.left + 2
 
 -- the statements left lead to the end of all
 abbrev pub invariant-block-loop-one : goal.invariant-block-loop-one
