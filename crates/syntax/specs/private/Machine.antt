@@ -211,10 +211,14 @@ abbrev pub called_alone : Lexeme → (StatementTree → ParserState) → ParserS
 called_alone t k =
     one (token.Sign sign.OpenRound) (λ _. call_of t (λ c. one (token.Sign sign.Semicolon) (λ _. k (call c))))
 
+-- a statement that begins with a name and is no assignment to it, after the name
+abbrev pub unassigned : Lexeme → (StatementTree → ParserState) → ParserState
+unassigned t k =
+    either (token.Sign sign.OpenSquare) (λ opening. element_assigned t opening.place k) (called_alone t k)
+
 -- a statement that begins with a name, after the name
 abbrev pub targeted : Lexeme → (StatementTree → ParserState) → ParserState
-targeted t k = either (token.Sign sign.Assign) (λ equals. assigned t equals.place k)
-    (either (token.Sign sign.OpenSquare) (λ opening. element_assigned t opening.place k) (called_alone t k))
+targeted t k = either (token.Sign sign.Assign) (λ equals. assigned t equals.place k) (unassigned t k)
 
 -- statements in curly brackets
 abbrev pub block : (BlockTree → ParserState) → ParserState
@@ -256,15 +260,25 @@ parameter_name label kind form length k =
     one token.Name
     (λ t. k (record { label = label; kind = kind; form = form; length = length; place = t.place; name = t.text }))
 
+-- an array as a parameter, after the opening bracket of its length
+abbrev pub array_parameter : Label → Kind → Form → (ParameterTree → ParserState) → ParserState
+array_parameter label kind form k = sized (λ length. parameter_name label kind form length k)
+
+-- a parameter that may be changed, after `mut`
+abbrev pub mutable_parameter : Label → (ParameterTree → ParserState) → ParserState
+mutable_parameter label k =
+    a_kind (λ kind. one (token.Sign sign.OpenSquare) (λ _. array_parameter label kind MutableArray k))
+
+-- one that stays as it is, after its label
+abbrev pub fixed_parameter : Label → (ParameterTree → ParserState) → ParserState
+fixed_parameter label k =
+    a_kind (λ kind. either (token.Sign sign.OpenSquare) (λ _. array_parameter label kind FixedArray k)
+    (parameter_name label kind SingleWord 1 k))
+
 -- a parameter, after its label
 abbrev pub labelled : Label → (ParameterTree → ParserState) → ParserState
 labelled label k =
-    either (token.Keyword keyword.Mut)
-    (λ _. a_kind (λ kind. one (token.Sign sign.OpenSquare)
-    (λ _. sized (λ length. parameter_name label kind MutableArray length k))))
-    (a_kind (λ kind. either (token.Sign sign.OpenSquare)
-    (λ _. sized (λ length. parameter_name label kind FixedArray length k))
-    (parameter_name label kind SingleWord 1 k)))
+    either (token.Keyword keyword.Mut) (λ _. mutable_parameter label k) (fixed_parameter label k)
 
 abbrev pub parameter : (ParameterTree → ParserState) → ParserState
 parameter k = a_label (λ label. labelled label k)

@@ -3,7 +3,7 @@ ghost use Rattle.std.specs.Option.{option_map};
 ghost use Rattle.syntax.specs.Lexeme.{lexeme};
 ghost use Rattle.syntax.specs.private.Machine.{ParserState, first_values, declared_array, declared_word, declared_as};
 ghost use Rattle.syntax.specs.private.Machine.{declared as declared_state, assigned, element_assigned, called_alone};
-ghost use Rattle.syntax.specs.private.Machine.{targeted as targeted_state};
+ghost use Rattle.syntax.specs.private.Machine.{targeted as targeted_state, unassigned};
 ghost use Rattle.syntax.specs.private.ParserViews.{Leads};
 ghost use Rattle.syntax.specs.Below.{expr_tree, ExprTree, statement_tree, StatementTree};
 
@@ -164,9 +164,18 @@ impl<'t> Parser<'t> {
             → Leads (targeted_state (lexeme name.entry) k) (λ s. k (statement_tree s)) result self.old self.new }
         ensures shorter { OnOk result (length self.new.rest.now ≤ length self.old.rest.now) }
     {
-        if let Some(sign) = self.takes(TokenKind::Sign(Sign::Assign))? {
-            return self.assigned(name, sign.place);
+        match self.takes(TokenKind::Sign(Sign::Assign))? {
+            Some(sign) => self.assigned(name, sign.place),
+            None => self.unassigned(name),
         }
+    }
+
+    /// A statement that begins with a name and is no assignment to it, after the name.
+    fn unassigned(&mut self, name: Token<'t>) -> Result<Statement, ParseFault>
+        ensures leads { (k : StatementTree → ParserState)
+            → Leads (unassigned (lexeme name.entry) k) (λ s. k (statement_tree s)) result self.old self.new }
+        ensures shorter { OnOk result (length self.new.rest.now ≤ length self.old.rest.now) }
+    {
         match self.takes(TokenKind::Sign(Sign::OpenSquare))? {
             Some(opening) => self.element_assigned(name, opening.place),
             None => self.called_alone(name),

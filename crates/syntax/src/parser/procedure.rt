@@ -1,7 +1,8 @@
 ghost use Rattle.std.specs.Prelude.{◌≡◌, ◌≤◌, ◌<◌, List, Option, OnOk, length, map};
 ghost use Rattle.std.specs.Option.{option_map};
 ghost use Rattle.syntax.specs.private.Machine.{ParserState, exported, result_type as result_type_state, parameter_name};
-ghost use Rattle.syntax.specs.private.Machine.{parameter as parameter_state, labelled};
+ghost use Rattle.syntax.specs.private.Machine.{array_parameter, fixed_parameter, labelled, mutable_parameter};
+ghost use Rattle.syntax.specs.private.Machine.{parameter as parameter_state};
 ghost use Rattle.syntax.specs.private.Machine.{parameters as parameters_state, returned as returned_state};
 ghost use Rattle.syntax.specs.private.Machine.{procedure as procedure_state};
 ghost use Rattle.syntax.specs.private.ParserViews.{Leads};
@@ -99,17 +100,48 @@ impl<'t> Parser<'t> {
         ensures shorter { OnOk result (length self.new.rest.now ≤ length self.old.rest.now) }
     {
         if self.skips(TokenKind::Keyword(Keyword::Mut))? {
-            let kind = self.kind()?;
-            self.pass(TokenKind::Sign(Sign::OpenSquare))?;
-            let length = self.length()?;
-            return self.parameter_name(label, kind, Form::MutableArray, length);
+            return self.mutable_parameter(label);
         }
+        self.fixed_parameter(label)
+    }
+
+    /// A parameter that may be changed, after `mut`: an array.
+    fn mutable_parameter(&mut self, label: Label) -> Result<Parameter, ParseFault>
+        ensures leads { (k : ParameterTree → ParserState)
+            → Leads (mutable_parameter label k) (λ p. k (parameter_tree p)) result self.old self.new }
+        ensures shorter { OnOk result (length self.new.rest.now ≤ length self.old.rest.now) }
+    {
+        let kind = self.kind()?;
+        self.pass(TokenKind::Sign(Sign::OpenSquare))?;
+        self.array_parameter(label, kind, Form::MutableArray)
+    }
+
+    /// A parameter that stays as it is, after its label.
+    fn fixed_parameter(&mut self, label: Label) -> Result<Parameter, ParseFault>
+        ensures leads { (k : ParameterTree → ParserState)
+            → Leads (fixed_parameter label k) (λ p. k (parameter_tree p)) result self.old self.new }
+        ensures shorter { OnOk result (length self.new.rest.now ≤ length self.old.rest.now) }
+    {
         let kind = self.kind()?;
         if self.skips(TokenKind::Sign(Sign::OpenSquare))? {
-            let length = self.length()?;
-            return self.parameter_name(label, kind, Form::FixedArray, length);
+            return self.array_parameter(label, kind, Form::FixedArray);
         }
         self.parameter_name(label, kind, Form::SingleWord, 1)
+    }
+
+    /// An array as a parameter, after the opening bracket of its length.
+    fn array_parameter(
+        &mut self,
+        label: Label,
+        kind: Kind,
+        form: Form,
+    ) -> Result<Parameter, ParseFault>
+        ensures leads { (k : ParameterTree → ParserState)
+            → Leads (array_parameter label kind form k) (λ p. k (parameter_tree p)) result self.old self.new }
+        ensures shorter { OnOk result (length self.new.rest.now ≤ length self.old.rest.now) }
+    {
+        let length = self.length()?;
+        self.parameter_name(label, kind, form, length)
     }
 
     /// The name of a parameter, after its type.
