@@ -201,3 +201,64 @@ element-returns-in_ok-given-in-Call-clause-block t c =
       c.numbers-size.ensures,
       c.numbered-number.ensures,
     ) at c.push-in-Call-2.ensures)
+
+pub word-returns-clause-names : goal.word-returns-clause-names
+word-returns-clause-names t c =
+    ok_any c.push.result
+    (rw (c.in_ok-number.ensures.names, c.in_ok-value.ensures.declared, length-append, c.word.ensures) refl)
+
+pub word-returns-clause-declared : goal.word-returns-clause-declared
+word-returns-clause-declared t c =
+    ok_any c.push.result
+    (rw (c.in_ok-number.ensures.declared, c.in_ok-value.ensures.declared, append_assoc, c.word.ensures) refl)
+
+pub assign-returns-clause-block : goal.assign-returns-clause-block
+assign-returns-clause-block t c =
+    rw (c.in_ok-value.ensures.value, c.in_ok-value.ensures.block, chain_chain, c.numbered-number.ensures)
+    at c.push.ensures
+
+pub assign-returns-clause-declared : goal.assign-returns-clause-declared
+assign-returns-clause-declared t c = ok_any c.push.result c.in_ok-value.ensures.declared
+
+pub branch-returns-clause-names : goal.branch-returns-clause-names
+branch-returns-clause-names t c =
+    ok_any c.push.result (c.in_ok-otherwise.ensures.names ∙ c.in_ok-accepted.ensures.names)
+
+pub branch-returns-clause-declared : goal.branch-returns-clause-declared
+branch-returns-clause-declared t c =
+    ok_any c.push.result
+    (rw (c.in_ok-otherwise.ensures.declared, c.in_ok-accepted.ensures.declared, append_assoc) refl)
+
+pub iterations-returns-clause-declared : goal.iterations-returns-clause-declared
+iterations-returns-clause-declared t c =
+    ok_any c.push.result
+    (rw (c.in_ok-iteration.ensures.declared, c.in_ok-number.ensures.declared, append_assoc, c.counter.ensures) refl)
+
+pub right-returns-in-Value-clause-block : goal.right-returns-in-Value-clause-block
+right-returns-in-Value-clause-block t c =
+    ok_any c.term.result (rw c.in-Value.is (sym (chain_nothing (flat_block c.args.flat.now.items))))
+
+pub right-returns-in-Value-clause-declared : goal.right-returns-in-Value-clause-declared
+right-returns-in-Value-clause-declared t c =
+    ok_any c.term.result (rw c.in-Value.is (sym (append-nil c.args.declared.now.items)))
+
+pub right-returns-in_ok-push-in-Call-2-clause-block : goal.right-returns-in_ok-push-in-Call-2-clause-block
+right-returns-in_ok-push-in-Call-2-clause-block t c =
+    rw (
+      c.in-Call.is,
+      c.in_ok-push-in-Call-2.ensures,
+      c.in_ok-given-in-Call.ensures.block,
+      chain_chain,
+      c.in_ok-push-in-Call.ensures,
+      chain_chain,
+    ) refl
+
+pub element-returns-in_ok-value-in-Value-clause-block : goal.element-returns-in_ok-value-in-Value-clause-block
+element-returns-in_ok-value-in-Value-clause-block t c =
+    rw c.in-Value.is
+    (rw (c.in_ok-value-in-Value.ensures, c.in_ok-index.ensures, c.numbers-size.ensures, c.numbered-number.ensures)
+    at c.push.ensures)
+
+pub element-returns-in_ok-value-in-Value-clause-declared : goal.element-returns-in_ok-value-in-Value-clause-declared
+element-returns-in_ok-value-in-Value-clause-declared t c =
+    ok_any c.push.result (rw c.in-Value.is (sym (append-nil c.args.declared.now.items)))
