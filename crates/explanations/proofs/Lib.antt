@@ -5,6 +5,7 @@ pub mod habits_lemmas
 pub mod refusal_details_lemmas
 pub mod explained_refusals_lemmas
 mod DistinctTexts
+mod EitherGroup
 mod FoundRows
 mod NamedRows
 mod OneOfGroups

@@ -7,7 +7,7 @@
 -- refusal_details: what is said of a refusal beside its rule: Details has all of it, WhyLines what the evidence of a
 --   violation says, TypeLines, SizeLines and ExpectedLines its parts. explained_refusals: all that is printed below
 --   one.
--- private: whether the names in the table are those of the rules.
+-- private: whether the names in the table are those of the rules; what is found of a code in a group of its rows.
 pub mod source_excerpts
 pub mod expected_tokens
 pub mod call_places

@@ -1,20 +1,16 @@
-ghost use Rattle.std.specs.Prelude.{◌≡◌, ◌↔◌, map, IfSome, IsSome, IsTrue, Contains};
+ghost use Rattle.std.specs.Prelude.{◌≡◌, map, IfSome, IsTrue};
 ghost use Rattle.std.specs.List.{find};
-ghost use Rattle.std.specs.Option.{option_map};
 ghost use Rattle.std.specs.Str.{bytes_eq};
-ghost use Rattle.explanations.specs.Table.{HasItsName, text_in};
 ghost use Rattle.explanations.specs.private.Names.{have_names};
+ghost use Rattle.explanations.specs.private.RowsFound.{IsRowOf};
 
 use crate::row::Explanation;
 
 /// The first row of a code: there is one exactly if a row has this code.
 pub fn row_of(rows: &[Explanation], code: &str) -> Option<Explanation>
     requires { IsTrue (have_names rows.now) }
-    ensures text { option_map (λ row. row.rule.now) result
-        ≡ text_in (map (λ row. (row.code.now, row.rule.now)) rows.now) code.now }
-    ensures asked { IfSome result (λ row. row.code.now ≡ code.now) }
-    ensures named { IfSome result HasItsName }
-    ensures known { IsSome result ↔ (Contains (map (λ row. row.code.now) rows.now) code.now) }
+    ensures { IsRowOf (map (λ row. row.code.now) rows.now)
+        (map (λ row. (row.code.now, row.rule.now)) rows.now) code.now result }
 {
     first_of(rows, code)
 }

@@ -6,7 +6,7 @@ ghost use Rattle.explanations.specs.Listed.{listed};
 ghost use Rattle.explanations.specs.Table.{HasItsName, text_of};
 
 use crate::row::Explanation;
-use crate::rows::{files, limits, names_and_types, reading, runs, secrecy};
+use crate::rows::{executables, inputs, limits, names, reading, runs, secrecy, types};
 
 /// All codes, in the order of the tables.
 const CODES: [&str; 64] = [
@@ -85,10 +85,12 @@ pub fn explanation(code: &str) -> Option<Explanation>
     ensures listed { IsSome result ↔ (Contains listed code.now) }
 {
     reading::row(code)
-        .or(names_and_types::row(code))
+        .or(names::row(code))
+        .or(types::row(code))
         .or(secrecy::row(code))
         .or(limits::row(code))
-        .or(files::row(code))
+        .or(inputs::row(code))
+        .or(executables::row(code))
         .or(runs::row(code))
 }
 

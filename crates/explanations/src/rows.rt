@@ -1,8 +1,10 @@
 // The table, a constant for each code.
 
-pub mod files;
+pub mod executables;
+pub mod inputs;
 pub mod limits;
-pub mod names_and_types;
+pub mod names;
 pub mod reading;
 pub mod runs;
 pub mod secrecy;
+pub mod types;

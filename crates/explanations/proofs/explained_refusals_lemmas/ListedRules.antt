@@ -4,11 +4,12 @@ use Rattle.std.proofs.lemmas.Map.Views.{Contains-from_any}
 use Rattle.std.proofs.lemmas.Slice.Eq.{bytes_eq-Decides}
 use Rattle.std.specs.List.{list_any}
 use Rattle.std.specs.Str.{bytes_eq}
-use Rattle.explanations.specs.Listed.{reading, names_and_types, labels, limits, files, runs, listed}
+use Rattle.explanations.specs.Listed.{reading, names, types, names_and_types, labels, limits, inputs, executables, files}
+use Rattle.explanations.specs.Listed.{runs, listed}
 use Rattle.explanations.specs.Below.{code_of, Rule, UnknownCharacter}
 
 is_found : (rule : Rule) → list_any (bytes_eq (code_of rule)) listed ≡ true
-unfolding listed reading names_and_types labels limits files runs
+unfolding listed reading names types names_and_types labels limits inputs executables files runs
 is_found UnknownCharacter = refl
 is_found _ = refl
 

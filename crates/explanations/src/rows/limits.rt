@@ -1,9 +1,8 @@
 // Limits on size and work, and what is known of indices and divisors.
 
-ghost use Rattle.std.specs.Prelude.{◌≡◌, ◌↔◌, IfSome, IsSome, Contains};
-ghost use Rattle.std.specs.Option.{option_map};
 ghost use Rattle.explanations.specs.Listed.{limits};
-ghost use Rattle.explanations.specs.Table.{HasItsName, text_in, limit_texts};
+ghost use Rattle.explanations.specs.Table.{limit_texts};
+ghost use Rattle.explanations.specs.private.RowsFound.{IsRowOf};
 
 use crate::finding::row_of;
 use crate::row::Explanation;
@@ -136,10 +135,7 @@ export secret uint32 f(public uint32 n, secret uint32 x) {
 
 /// The row of a code of this group.
 pub fn row(code: &str) -> Option<Explanation>
-    ensures text { option_map (λ row. row.rule.now) result ≡ text_in limit_texts code.now }
-    ensures asked { IfSome result (λ row. row.code.now ≡ code.now) }
-    ensures named { IfSome result HasItsName }
-    ensures known { IsSome result ↔ (Contains limits code.now) }
+    ensures { IsRowOf limits limit_texts code.now result }
 {
     row_of(&ROWS, code)
 }

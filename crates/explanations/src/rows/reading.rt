@@ -1,9 +1,8 @@
 // Errors of lexer and parser.
 
-ghost use Rattle.std.specs.Prelude.{◌≡◌, ◌↔◌, IfSome, IsSome, Contains};
-ghost use Rattle.std.specs.Option.{option_map};
 ghost use Rattle.explanations.specs.Listed.{reading};
-ghost use Rattle.explanations.specs.Table.{HasItsName, text_in, reading_texts};
+ghost use Rattle.explanations.specs.Table.{reading_texts};
+ghost use Rattle.explanations.specs.private.RowsFound.{IsRowOf};
 
 use crate::finding::row_of;
 use crate::row::Explanation;
@@ -102,10 +101,7 @@ export public uint32 f() {
 
 /// The row of a code of this group.
 pub fn row(code: &str) -> Option<Explanation>
-    ensures text { option_map (λ row. row.rule.now) result ≡ text_in reading_texts code.now }
-    ensures asked { IfSome result (λ row. row.code.now ≡ code.now) }
-    ensures named { IfSome result HasItsName }
-    ensures known { IsSome result ↔ (Contains reading code.now) }
+    ensures { IsRowOf reading reading_texts code.now result }
 {
     row_of(&ROWS, code)
 }

@@ -1,9 +1,8 @@
 // Errors of an evaluation, and the stops of a run.
 
-ghost use Rattle.std.specs.Prelude.{◌≡◌, ◌↔◌, IfSome, IsSome, Contains};
-ghost use Rattle.std.specs.Option.{option_map};
 ghost use Rattle.explanations.specs.Listed.{runs};
-ghost use Rattle.explanations.specs.Table.{HasItsName, text_in, run_texts};
+ghost use Rattle.explanations.specs.Table.{run_texts};
+ghost use Rattle.explanations.specs.private.RowsFound.{IsRowOf};
 
 use crate::finding::row_of;
 use crate::row::Explanation;
@@ -123,10 +122,7 @@ const ROWS: [Explanation; 9] = [
 
 /// The row of a code of this group.
 pub fn row(code: &str) -> Option<Explanation>
-    ensures text { option_map (λ row. row.rule.now) result ≡ text_in run_texts code.now }
-    ensures asked { IfSome result (λ row. row.code.now ≡ code.now) }
-    ensures named { IfSome result HasItsName }
-    ensures known { IsSome result ↔ (Contains runs code.now) }
+    ensures { IsRowOf runs run_texts code.now result }
 {
     row_of(&ROWS, code)
 }

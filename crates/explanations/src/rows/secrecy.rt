@@ -1,9 +1,8 @@
 // Rules on labels: what keeps secrets from public values and from what an observer sees.
 
-ghost use Rattle.std.specs.Prelude.{◌≡◌, ◌↔◌, IfSome, IsSome, Contains};
-ghost use Rattle.std.specs.Option.{option_map};
 ghost use Rattle.explanations.specs.Listed.{labels};
-ghost use Rattle.explanations.specs.Table.{HasItsName, text_in, label_texts};
+ghost use Rattle.explanations.specs.Table.{label_texts};
+ghost use Rattle.explanations.specs.private.RowsFound.{IsRowOf};
 
 use crate::finding::row_of;
 use crate::row::Explanation;
@@ -156,10 +155,7 @@ export void f(secret bool s, secret mut uint32[1] total) {
 
 /// The row of a code of this group.
 pub fn row(code: &str) -> Option<Explanation>
-    ensures text { option_map (λ row. row.rule.now) result ≡ text_in label_texts code.now }
-    ensures asked { IfSome result (λ row. row.code.now ≡ code.now) }
-    ensures named { IfSome result HasItsName }
-    ensures known { IsSome result ↔ (Contains labels code.now) }
+    ensures { IsRowOf labels label_texts code.now result }
 {
     row_of(&ROWS, code)
 }

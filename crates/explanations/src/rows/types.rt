@@ -1,34 +1,13 @@
-// Rules on names and types.
+// Rules on types.
 
-ghost use Rattle.std.specs.Prelude.{◌≡◌, ◌↔◌, IfSome, IsSome, Contains};
-ghost use Rattle.std.specs.Option.{option_map};
-ghost use Rattle.explanations.specs.Listed.{names_and_types};
-ghost use Rattle.explanations.specs.Table.{HasItsName, text_in, name_and_type_texts};
+ghost use Rattle.explanations.specs.Listed.{types};
+ghost use Rattle.explanations.specs.Table.{type_texts};
+ghost use Rattle.explanations.specs.private.RowsFound.{IsRowOf};
 
 use crate::finding::row_of;
 use crate::row::Explanation;
 
 // What the rules are, what usually breaks them and what to do, by their codes.
-
-pub const N1: &str =
-    "The name is not a variable in scope here. It was never declared, is declared further down, was\n\
-    declared in a block that has ended, or is the name of a procedure. Declare it before its first\n\
-    use, in a block around all its uses.";
-
-pub const N2: &str =
-    "A name that is in scope cannot be declared again: there is no shadowing, and procedures,\n\
-    parameters, variables and counters of loops share one name space. Choose another name. Two\n\
-    blocks of which neither is inside the other may use the same name.";
-
-pub const N3: &str =
-    "A procedure can call only those that stand before it in the source: not itself, no later one and no\n\
-    variable. So there is no recursion. Move the called procedure up. If it stands in a file of its own,\n\
-    `--with` reads that file first.";
-
-pub const N4: &str =
-    "Exactly one procedure of a source has `export`: it is the one that is compiled, with all that it\n\
-    calls. If none has it, the error is at 1:1; if several have it, it is at the second. A file that is\n\
-    read by `--with` has none: it is checked together with one that has.";
 
 pub const T1: &str =
     "Two numbers of different widths meet: the operands of an operator, the last two of `select`, or a\n\
@@ -72,74 +51,7 @@ pub const T9: &str =
     "A list of initial values has one for each element of the array. Without a list all elements are\n\
     0, or false.";
 
-const ROWS: [Explanation; 13] = [
-    Explanation {
-        code: "N1",
-        name: "undeclared name",
-        rule: N1,
-        violates: "\
-export secret uint32 f(secret bool c) {
-    if (c) {
-        secret uint32 y = 1;
-    }
-    return y;
-}",
-        corrected: "\
-export secret uint32 f(secret bool c) {
-    secret mut uint32 y = 0;
-    if (c) {
-        y = 1;
-    }
-    return y;
-}",
-    },
-    Explanation {
-        code: "N2",
-        name: "name declared twice",
-        rule: N2,
-        violates: "\
-export secret uint32 f(secret uint32 x) {
-    secret uint32 x = 1;
-    return x;
-}",
-        corrected: "\
-export secret uint32 f(secret uint32 x) {
-    secret uint32 y = x + 1;
-    return y;
-}",
-    },
-    Explanation {
-        code: "N3",
-        name: "procedure not declared earlier",
-        rule: N3,
-        violates: "\
-export void f() {
-    g();
-}
-
-void g() {
-}",
-        corrected: "\
-void g() {
-}
-
-export void f() {
-    g();
-}",
-    },
-    Explanation {
-        code: "N4",
-        name: "not exactly one export",
-        rule: N4,
-        violates: "\
-secret uint32 f(secret uint32 x) {
-    return x + 1;
-}",
-        corrected: "\
-export secret uint32 f(secret uint32 x) {
-    return x + 1;
-}",
-    },
+const ROWS: [Explanation; 9] = [
     Explanation {
         code: "T1",
         name: "widths differ",
@@ -280,10 +192,7 @@ export secret uint32 f(secret uint32 x) {
 
 /// The row of a code of this group.
 pub fn row(code: &str) -> Option<Explanation>
-    ensures text { option_map (λ row. row.rule.now) result ≡ text_in name_and_type_texts code.now }
-    ensures asked { IfSome result (λ row. row.code.now ≡ code.now) }
-    ensures named { IfSome result HasItsName }
-    ensures known { IsSome result ↔ (Contains names_and_types code.now) }
+    ensures { IsRowOf types type_texts code.now result }
 {
     row_of(&ROWS, code)
 }
