@@ -1,7 +1,10 @@
 -- What is found, and how many there are, is the same of things and of what they are shown as.
-use Rattle.std.proofs.Common.{◌≡◌, Bool, true, false, cond, List, [], ◌∷◌, map, length, suc, Option, Some, refl, ap, ◌∙◌}
+use Rattle.std.proofs.Common.{◌≡◌, Bool, true, false, cond, List, [], ◌∷◌, ◌++◌, map, length, suc, Option, Some, refl}
+use Rattle.std.proofs.Common.{sym, ap, ◌∙◌}
 use Rattle.std.specs.List.{filter, find}
-use Rattle.std.specs.Option.{option_map}
+use Rattle.std.specs.Option.{option_map, option_or}
+use Rattle.std.proofs.lemmas.List.Folds.{find-append}
+use Rattle.explanations.proofs.EitherGroup.{mapped_or}
 
 module _ {X Y : Type 0} (view : X → Y) (test : Y → Bool) where
   found : (xs : List X) → option_map view (find (λ x. test (view x)) xs) ≡ find test (map view xs)
@@ -14,12 +17,18 @@ module _ {X Y : Type 0} (view : X → Y) (test : Y → Bool) where
       by true later = refl
       by false later = later
 
-  -- what is said of the first one that passes
-  pub said_of_found : {A : Type 0} (said : Y → A) (rows : List X) (table : List Y) (first : Option X)
-      → map view rows ≡ table → first ≡ find (λ x. test (view x)) rows
-      → option_map said (option_map view first) ≡ option_map said (find test table)
-  said_of_found said rows table first shown is =
-      ap (option_map said) (ap (option_map view) is ∙ found rows ∙ ap (find test) shown)
+  -- the first one that passes, of those that are shown as some
+  pub found_shown : (xs : List X) (ys : List Y) (first : Option X) → map view xs ≡ ys
+      → first ≡ find (λ x. test (view x)) xs → option_map view first ≡ find test ys
+  found_shown xs ys first shown is = ap (option_map view) is ∙ found xs ∙ ap (find test) shown
+
+  -- the first one of some and then of others
+  pub found_in_both : (one other first : Option X) (ys zs : List Y) → option_map view one ≡ find test ys
+      → option_map view other ≡ find test zs → first ≡ option_or one other
+      → option_map view first ≡ find test (ys ++ zs)
+  found_in_both one other first ys zs is is' both =
+      ap (option_map view) both ∙ mapped_or view one other ∙ ap (λ o. option_or o (option_map view other)) is
+      ∙ ap (λ o. option_or (find test ys) o) is' ∙ sym (find-append test ys zs)
 
   pub same_count : (xs : List X) → length (filter (λ x. test (view x)) xs) ≡ length (filter test (map view xs))
   same_count [] = refl

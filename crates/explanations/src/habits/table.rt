@@ -1,6 +1,6 @@
 // The table of habits: what stands at and around the place, and what to write instead.
 
-ghost use Rattle.std.specs.Prelude.{◌≡◌, map};
+ghost use Rattle.std.specs.Prelude.{◌≡◌, drop, map, take};
 ghost use Rattle.std.specs.List.{find, list_any, slice_split};
 ghost use Rattle.std.specs.Option.{option_map};
 ghost use Rattle.explanations.specs.habits.Habits.{advice_for, fits, habits, is_one_of};
@@ -67,7 +67,8 @@ const BEFORE_OPERANDS: &str =
 
 const COMPARISONS: &str = "== != < <= > >=";
 
-const HABITS: [Habit; 54] = [
+/// Habits of statements, of comments and of steps.
+const STATEMENTS: [Habit; 15] = [
     Habit {
         here: "/",
         next: "*",
@@ -158,6 +159,10 @@ const HABITS: [Habit; 54] = [
         advice: JUMP,
         ..ANYWHERE
     },
+];
+
+/// Habits of types and declarations.
+const DECLARATIONS: [Habit; 26] = [
     Habit {
         here: DECLARERS,
         advice: FIELDS,
@@ -318,6 +323,10 @@ const HABITS: [Habit; 54] = [
         advice: KEYWORD,
         ..ANYWHERE
     },
+];
+
+/// Habits of expressions, and of what stands around blocks.
+const EXPRESSIONS: [Habit; 13] = [
     Habit {
         before: ">>",
         here: ">",
@@ -403,11 +412,25 @@ const HABITS: [Habit; 54] = [
     },
 ];
 
-/// The table.
-fn habits() -> &'static [Habit]
-    ensures { map shown result.now ≡ habits }
+/// The beginning of the table.
+fn statements() -> &'static [Habit]
+    ensures { map shown result.now ≡ take 15 habits }
 {
-    &HABITS
+    &STATEMENTS
+}
+
+/// What stands behind it.
+fn declarations() -> &'static [Habit]
+    ensures { map shown result.now ≡ take 26 (drop 15 habits) }
+{
+    &DECLARATIONS
+}
+
+/// The rest of the table.
+fn expressions() -> &'static [Habit]
+    ensures { map shown result.now ≡ drop 41 habits }
+{
+    &EXPRESSIONS
 }
 
 /// Whether a text is one of some words, which have a blank between them.
@@ -453,11 +476,20 @@ fn first_fitting(spot: &Spot<'_>, habits: &'static [Habit]) -> Option<Habit>
     habits.iter().copied().find(|habit| fits(spot, habit))
 }
 
+/// The first habit of the table that fits a place.
+fn habit_at(spot: &Spot<'_>) -> Option<Habit>
+    ensures { option_map shown result ≡ find (fits (spot_of spot.now)) habits }
+{
+    first_fitting(spot, statements())
+        .or(first_fitting(spot, declarations()))
+        .or(first_fitting(spot, expressions()))
+}
+
 /// What to write instead of the first habit that fits a place.
 pub(crate) fn advice_for(spot: &Spot<'_>) -> Option<&'static str>
     ensures { option_map (λ text. text.now) result ≡ advice_for (spot_of spot.now) }
 {
-    match first_fitting(spot, habits()) {
+    match habit_at(spot) {
         Some(habit) => Some(habit.advice),
         None => None,
     }

@@ -1,6 +1,6 @@
 use Rattle.std.proofs.Common.{refl}
 use Rattle.explanations.specs.habits.Habits.{habits}
-use Rattle.explanations.proofs.habits.table.habits.Goals as goal
+use Rattle.explanations.proofs.habits.table.declarations.Goals as goal
 
 pub returns : goal.returns
 unfolding habits
