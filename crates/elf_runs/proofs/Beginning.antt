@@ -9,11 +9,11 @@ use Rattle.elf_runs.specs.declared.asked.Asked.{Asked}
 use Rattle.elf_runs.specs.Below.{ByteMap, Executable, function_named, known_of, KnownState, MachineProgram, Profile}
 use Rattle.elf_runs.specs.Below.{ProgramCode, register, register_masks, Shifts, State}
 use Rattle.elf_runs.specs.Word.{known}
-use Rattle.elf_runs.specs.Memory.{memory_at_start}
+use Rattle.elf_runs.specs.Memory.{RangeState}
 use Rattle.elf_runs.specs.Begin.{register_of}
 use Rattle.elf_runs.specs.declared.words.Word.{Word}
-use Rattle.elf_runs.specs.Loading.{address_or_zero, code_for, known_at_start, machine_program, may_be_stored_to}
-use Rattle.elf_runs.specs.Loading.{state_at_start}
+use Rattle.elf_runs.specs.Loading.{address_or_zero, code_for, known_at_start, may_be_stored_to, state_at_start}
+use Rattle.elf_runs.specs.private.Loaded.{program_over}
 
 -- the words of registers that there are, and 0 for others
 abbrev word_or_zero : (ℕ → Word) → ℕ → Word
@@ -58,11 +58,10 @@ masks_read program asked shifts masks count are =
 abbrev program_by : (ℕ → ProgramCode) → (ℕ → Bool) → MachineProgram
 program_by code writable = record { code = code; writable = writable }
 
-pub program_is : (program : Executable) (asked : Asked) (profile : Profile) (given : MachineProgram)
+pub program_is : (program : Executable) (profile : Profile) (given : MachineProgram) (ranges : List RangeState)
     (code : ℕ → ProgramCode) (writable : ℕ → Bool) → given ≡ record { code = code; writable = writable }
-    → code ≡ code_for program profile
-    → writable ≡ may_be_stored_to (memory_at_start program asked) → given ≡ machine_program program asked profile
-program_is program asked profile given code writable is codes stores = is ∙ ap₂ program_by codes stores
+    → code ≡ code_for program profile → writable ≡ may_be_stored_to ranges → given ≡ program_over program ranges profile
+program_is program profile given ranges code writable is codes stores = is ∙ ap₂ program_by codes stores
 
 abbrev state_by : ℕ → (ℕ → ℕ) → ByteMap → State
 state_by pc regs bytes = record { pc = pc; regs = regs; bytes = bytes }

@@ -8,7 +8,7 @@ ghost use Rattle.elf_runs.specs.Code.{halfwords_from, placed, words_from};
 ghost use Rattle.elf_runs.specs.Memory.{range_of};
 ghost use Rattle.elf_runs.specs.Loading.{alignment_by, code_among, item_at, known_at_start, machine_program};
 ghost use Rattle.elf_runs.specs.Loading.{may_be_stored_to};
-ghost use Rattle.elf_runs.specs.private.Loaded.{IsSegmentOf};
+ghost use Rattle.elf_runs.specs.private.Loaded.{IsSegmentOf, program_over};
 
 use crate::asked::Asked;
 use crate::code::program_code;
@@ -165,6 +165,23 @@ fn marks_of(alloc: Global, ranges: &[MemoryRange]) -> Result<PagedMemory, AllocE
     Ok(memory)
 }
 
+/// What a program is to the machine, where a run begins with this memory.
+fn loaded_program(
+    alloc: Global,
+    program: &Program<'_>,
+    ranges: &[MemoryRange],
+    profile: Profile,
+) -> Result<LoadedProgram, AllocError>
+    ensures { IfOk result (λ loaded.
+        program_of loaded ≡ program_over program.now (map range_of ranges.now) profile) }
+{
+    let codes = program_code(alloc, program)?;
+    let segments = code_segments(alloc, codes.as_slice(), profile)?;
+    let alignment = alignment_of(program.compressed());
+    let variable = variable_ranges(alloc, ranges)?;
+    LoadedProgram::new(alloc, alignment, profile, segments, variable)
+}
+
 /// A function, loaded as it is asked for; else what the request does not meet first.
 pub fn load_function(
     alloc: Global,
@@ -185,18 +202,15 @@ pub fn load_function(
     ensures fault { IfErr result (λ fault. IsTold fault (needs program.now asked.now)) }
 {
     let start = prepare(alloc, program, asked)?;
-    let codes = program_code(alloc, program)?;
-    let segments = code_segments(alloc, codes.as_slice(), options.profile)?;
-    let alignment = alignment_of(program.compressed());
     let ranges = start.memory.as_slice();
-    let variable = variable_ranges(alloc, ranges)?;
+    let program = loaded_program(alloc, program, ranges, options.profile)?;
     let known = KnownParts {
         registers: start.unknown,
         marks: marks_of(alloc, ranges)?,
         shifts: options.shifts,
     };
     Ok(LoadedFunction {
-        program: LoadedProgram::new(alloc, alignment, options.profile, segments, variable)?,
+        program,
         run: Running {
             hart: Hart::with_registers(start.pc, start.registers),
             memory: memory_of(alloc, ranges)?,

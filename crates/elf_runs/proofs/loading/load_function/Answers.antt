@@ -1,28 +1,21 @@
 use Rattle.std.specs.Prelude.{is_some}
 use Rattle.std.proofs.Common.{◌≡◌, ◌∙◌, List, ap, length, map, rules, sym}
-use Rattle.elf_runs.specs.Below.{ByteMap, code_in, no_code, paged_bytes, pc_of, regs_of, Size, state_of}
-use Rattle.elf_runs.specs.declared.loaded_code.Code.{Code}
+use Rattle.elf_runs.specs.Below.{ByteMap, paged_bytes, pc_of, regs_of, state_of}
 use Rattle.elf_runs.specs.declared.memory_range.MemoryRange.{MemoryRange}
-use Rattle.elf_runs.specs.Code.{placed, PlacedCode}
 use Rattle.elf_runs.specs.Memory.{range_of, RangeState}
-use Rattle.elf_runs.specs.Loading.{alignment_by, code_among, item_at, may_be_stored_to}
-use Rattle.elf_runs.proofs.Beginning.{known_is, masks_read, program_is, registers_read, state_is}
+use Rattle.elf_runs.specs.Loading.{item_at}
+use Rattle.elf_runs.specs.private.Loaded.{program_over}
+use Rattle.elf_runs.proofs.Beginning.{known_is, masks_read, registers_read, state_is}
 use Rattle.elf_runs.proofs.Ranges.{marks_there}
 use Rattle.elf_runs.proofs.loading.load_function.Goals as goal
 
 pub returns-clause-program : goal.returns-clause-program
 returns-clause-program c =
-    let profile = c.args.options.profile in
-    let alignment = alignment_by c.args.program.now.compressed in
-    program_is c.args.program.now c.args.asked.now profile _ _ _ c.in_ok-new.ensures
-    (ap (λ (size : Size). code_in (no_code size profile) c.in_ok-segments.segments.items)
-    (c.alignment_of-alignment.ensures ∙ ap alignment_by c.compressed.ensures)
-    ∙ c.in_ok-segments.ensures alignment
-    ∙ ap (λ (codes : List Code). code_among alignment profile (map placed codes)) c.as_slice.ensures.value
-    ∙ ap (λ (codes : List PlacedCode). code_among alignment profile codes) c.in_ok-codes.ensures.code)
-    (c.in_ok-variable.ensures
-    ∙ ap (λ (ranges : List MemoryRange). may_be_stored_to (map range_of ranges)) c.as_slice-ranges.ensures.value
-    ∙ ap (λ (ranges : List RangeState). may_be_stored_to ranges) c.in_ok-start.ensures.memory)
+    c.in_ok-program.ensures
+    ∙ ap (λ (ranges : List MemoryRange). program_over c.args.program.now (map range_of ranges) c.args.options.profile)
+    c.as_slice-ranges.ensures.value
+    ∙ ap (λ (ranges : List RangeState). program_over c.args.program.now ranges c.args.options.profile)
+    c.in_ok-start.ensures.memory
 
 pub returns-clause-known : goal.returns-clause-known
 returns-clause-known c =
