@@ -1,11 +1,12 @@
 // What a run of a function begins with.
 
 ghost use Rattle.std.specs.Prelude.{◌≡◌, ◌<◌, ℕ, Some, None, map, slice_index, IfOk, IfErr};
-ghost use Rattle.elf_runs.specs.Arguments.{pushed};
+ghost use Rattle.elf_runs.specs.Arguments.{pushed, words_of};
 ghost use Rattle.elf_runs.specs.Begin.{register_of};
 ghost use Rattle.elf_runs.specs.Below.{function_named};
 ghost use Rattle.elf_runs.specs.Memory.{memory_at_start, range_of};
-ghost use Rattle.elf_runs.specs.Needs.{IsTold, Meets, first_unmet, function_needs, needs};
+ghost use Rattle.elf_runs.specs.Needs.{argument_needs, each_from, first_unmet, function_needs, IsTold, Meets, needs};
+ghost use Rattle.elf_runs.specs.Needs.{stack_needs};
 
 use crate::arguments::words_of;
 use crate::asked::Asked;
@@ -51,6 +52,29 @@ fn function_of(program: &Program<'_>, name: &[u8]) -> Result<u32, Unmet>
     }
 }
 
+/// The memory of a run with these arguments, where the function is there and so are they.
+fn memory_for(
+    alloc: Global,
+    program: &Program<'_>,
+    asked: &Asked,
+    words: &[Word],
+) -> Result<Vec<MemoryRange>, StartFault>
+    requires function { first_unmet (function_needs program.now asked.now.function.items) ≡ None }
+    requires arguments { first_unmet (each_from (argument_needs program.now) 0 asked.now.arguments.items) ≡ None }
+    requires words { words.now ≡ words_of program.now asked.now.arguments.items }
+    ensures met { IfOk result (λ _. first_unmet (needs program.now asked.now) ≡ None) }
+    ensures stack { IfOk result (λ _. first_unmet (stack_needs program.now asked.now) ≡ None) }
+    ensures memory { IfOk result (λ ranges. map range_of ranges.items ≡ memory_at_start program.now asked.now) }
+    ensures fault { IfErr result (λ fault. IsTold fault (needs program.now asked.now)) }
+{
+    let mut ranges = loaded_segments(alloc, program.segments())?;
+    hide_secrets(alloc, &mut ranges, program, &asked.secrets)?;
+    set_objects(&mut ranges, program, &asked.settings)?;
+    check_stack(program, asked)?;
+    ranges.push(stack_range(alloc, asked.stack, pushed(words))?)?;
+    Ok(ranges)
+}
+
 /// What a run of a function begins with, as it is asked for. The function's arguments are in a0 to a7 and on the stack,
 /// the stack pointer is a multiple of 16, gp is the program's, and ra an address at which no code stands. All else in
 /// the registers and on the stack is unknown, and each bit of what is secret. Else it names what the request breaks
@@ -67,16 +91,12 @@ pub fn prepare(alloc: Global, program: &Program<'_>, asked: &Asked) -> Result<St
 {
     let pc = function_of(program, &asked.function)?;
     let words = words_of(alloc, program, &asked.arguments)?;
-    let mut ranges = loaded_segments(alloc, program.segments())?;
-    hide_secrets(alloc, &mut ranges, program, &asked.secrets)?;
-    set_objects(&mut ranges, program, &asked.settings)?;
-    check_stack(program, asked)?;
-    ranges.push(stack_range(alloc, asked.stack, pushed(&words))?)?;
-    let registers = Registers::new(global_pointer(program), &words);
+    let memory = memory_for(alloc, program, asked, &words)?;
+    let Registers { values, unknown } = Registers::new(global_pointer(program), &words);
     Ok(Start {
         pc,
-        registers: registers.values,
-        unknown: registers.unknown,
-        memory: ranges,
+        registers: values,
+        unknown,
+        memory,
     })
 }

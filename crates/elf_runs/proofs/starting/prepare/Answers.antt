@@ -1,16 +1,12 @@
-use Rattle.std.proofs.Common.{◌≡◌, ◌≤◌, ◌∙◌, ◌++◌, ◌∷◌, ◌*◌, ◌^◌, ℕ, List, [], None, ap, ap₂}
-use Rattle.std.proofs.Common.{arith, codes, length, length-drop, map}
-use Rattle.std.specs.List.{fold}
-use Rattle.std.proofs.lemmas.List.{length-map, map-append}
-use Rattle.elf_runs.specs.Arguments.{pushed, pushed_size, rounded, word_of, words_of}
+use Rattle.std.proofs.Common.{◌≡◌, ◌≤◌, ◌∙◌, ◌^◌, ℕ, List, None, ap, ap₂, arith, codes, length}
+use Rattle.std.proofs.lemmas.List.{length-map}
+use Rattle.elf_runs.specs.Arguments.{pushed_size, word_of, words_of}
 use Rattle.elf_runs.specs.Begin.{global_pointer, register_by, register_of}
 use Rattle.elf_runs.specs.Below.{address_named, Executable}
-use Rattle.elf_runs.specs.Memory.{hide_in, loaded, memory_at_start, range_of, RangeState, set_in, stack_range}
-use Rattle.elf_runs.specs.Needs.{argument_needs, each_from, first_unmet, needs, secret_needs, stack_needs}
+use Rattle.elf_runs.specs.Needs.{argument_needs, each_from, first_unmet, needs, stack_needs}
 use Rattle.elf_runs.specs.declared.asked.Asked.{Asked}
 use Rattle.elf_runs.specs.declared.words.Word.{Word}
-use Rattle.elf_runs.proofs.Answering.{argument_first, function_first, secret_first, setting_first, stack_holds}
-use Rattle.elf_runs.proofs.Answering.{stack_last}
+use Rattle.elf_runs.proofs.Answering.{argument_first, function_first, stack_holds}
 use Rattle.elf_runs.proofs.Meeting.{told_of, told_on}
 use Rattle.elf_runs.proofs.starting.prepare.Goals as goal
 
@@ -19,30 +15,6 @@ register_is : (program : Executable) (asked : Asked) (gp : Word) (words : List W
     → gp ≡ global_pointer (address_named program (codes "__global_pointer$"))
     → words ≡ words_of program asked.arguments.items → register_by gp words r ≡ register_of program asked r
 register_is program asked gp words r pointer arguments = ap₂ (λ at given. register_by at given r) pointer arguments
-
--- the memory, from what is loaded over what is secret and what is set to the stack
-memory_is : (program : Executable) (asked : Asked) (first hidden set : List RangeState) (stack : RangeState)
-    (words : List Word) → first ≡ map loaded program.segments
-    → hidden ≡ fold (hide_in program) first asked.secrets.items
-    → set ≡ fold (set_in program) hidden asked.settings.items → stack ≡ stack_range asked.stack (pushed words)
-    → words ≡ words_of program asked.arguments.items → set ++ stack ∷ [] ≡ memory_at_start program asked
-memory_is program asked first hidden set stack words segments secrets settings last arguments =
-    ap₂ (λ front behind. front ++ behind ∷ [])
-    (settings
-    ∙ ap (λ ranges. fold (set_in program) ranges asked.settings.items)
-    (secrets ∙ ap (λ ranges. fold (hide_in program) ranges asked.secrets.items) segments))
-    (last ∙ ap (λ given. stack_range asked.stack (pushed given)) arguments)
-
--- the stack has room for the words behind the eighth, and is not too large
-room_is : (program : Executable) (asked : Asked) (words last : List Word)
-    → first_unmet (stack_needs program asked) ≡ None → words ≡ words_of program asked.arguments.items
-    → last ≡ pushed words → rounded (4 * length last) ≤ asked.stack
-room_is program asked words last met are behind =
-    rw (
-      ap length (behind ∙ ap pushed are),
-      length-drop 8 (words_of program asked.arguments.items),
-      length-map asked.arguments.items (word_of program),
-    ) (stack_holds program asked met).1
 
 few_are : (program : Executable) (asked : Asked) (words : List Word)
     → first_unmet (stack_needs program asked) ≡ None → words ≡ words_of program asked.arguments.items
@@ -68,93 +40,42 @@ returns-in_err-words-clause-fault c =
     c.from_residual-in_err-words.ensures.1 (rw c.deref-2.ensures.value at c.in_err-words.ensures.fault)
     (λ unmet. argument_first program asked unmet (rw c.deref.ensures.value at c.in_ok-pc.ensures.met))
 
-pub returns-in_err-hide_secrets-clause-fault : goal.returns-in_err-hide_secrets-clause-fault
-returns-in_err-hide_secrets-clause-fault c =
-    let program = c.args.program.now in
-    let asked = c.args.asked.now in
-    told_of c.from_residual-in_err-hide_secrets.result c.in_err-hide_secrets.field-0.0
-    (each_from (secret_needs program) 0 asked.secrets.items) (needs program asked)
-    c.from_residual-in_err-hide_secrets.ensures.1 (rw c.deref-3.ensures.value at c.in_err-hide_secrets.ensures.fault)
-    (λ unmet. secret_first program asked unmet (rw c.deref.ensures.value at c.in_ok-pc.ensures.met)
-    (rw c.deref-2.ensures.value at c.in_ok-words.ensures.met))
+pub memory_for-requires-clause-function : goal.memory_for-requires-clause-function
+memory_for-requires-clause-function c = rw c.deref.ensures.value at c.in_ok-pc.ensures.met
 
-pub returns-in_err-set_objects-clause-fault : goal.returns-in_err-set_objects-clause-fault
-returns-in_err-set_objects-clause-fault c =
-    let program = c.args.program.now in
-    let asked = c.args.asked.now in
-    let unmet = c.in_err-set_objects.field-0.0 in
-    told_on c.from_residual-in_err-set_objects.result unmet (needs program asked)
-    c.from_residual-in_err-set_objects.ensures.1
-    (setting_first program asked unmet (rw c.deref.ensures.value at c.in_ok-pc.ensures.met)
-    (rw c.deref-2.ensures.value at c.in_ok-words.ensures.met)
-    (rw c.deref-3.ensures.value at c.in_ok-hide_secrets.ensures.met)
-    (rw c.deref-4.ensures.value at c.in_err-set_objects.ensures.met))
+pub memory_for-requires-clause-arguments : goal.memory_for-requires-clause-arguments
+memory_for-requires-clause-arguments c = rw c.deref-2.ensures.value at c.in_ok-words.ensures.met
 
-pub returns-in_err-check_stack-clause-fault : goal.returns-in_err-check_stack-clause-fault
-returns-in_err-check_stack-clause-fault c =
-    let program = c.args.program.now in
-    let asked = c.args.asked.now in
-    let unmet = c.in_err-check_stack.field-0.0 in
-    told_on c.from_residual-in_err-check_stack.result unmet (needs program asked)
-    c.from_residual-in_err-check_stack.ensures.1
-    (stack_last program asked (rw c.deref.ensures.value at c.in_ok-pc.ensures.met)
-    (rw c.deref-2.ensures.value at c.in_ok-words.ensures.met)
-    (rw c.deref-3.ensures.value at c.in_ok-hide_secrets.ensures.met)
-    (rw c.deref-4.ensures.value at c.in_ok-set_objects.ensures.met)
-    ∙ c.in_err-check_stack.ensures)
+pub memory_for-requires-clause-words : goal.memory_for-requires-clause-words
+memory_for-requires-clause-words c =
+    c.deref-3.ensures.value ∙ (rw c.deref-2.ensures.value at c.in_ok-words.ensures.words)
 
-pub stack_range-requires-clause-size : goal.stack_range-requires-clause-size
-stack_range-requires-clause-size c =
-    (stack_holds c.args.program.now c.args.asked.now c.in_ok-check_stack.ensures).0
+pub returns-in_err-memory-clause-fault : goal.returns-in_err-memory-clause-fault
+returns-in_err-memory-clause-fault c =
+    let all = needs c.args.program.now c.args.asked.now in
+    told_of c.from_residual-in_err-memory.result c.in_err-memory.field-0.0 all all
+    c.from_residual-in_err-memory.ensures.1 c.in_err-memory.ensures.fault (λ unmet told. told)
 
-pub stack_range-requires-clause-room : goal.stack_range-requires-clause-room
-stack_range-requires-clause-room c =
-    room_is c.args.program.now c.args.asked.now c.deref-5.result.now c.pushed.result.now c.in_ok-check_stack.ensures
-    (c.deref-5.ensures.value ∙ (rw c.deref-2.ensures.value at c.in_ok-words.ensures.words)) c.pushed.ensures
-
-pub new-registers-requires : goal.new-registers-requires
-new-registers-requires c =
-    few_are c.args.program.now c.args.asked.now c.deref-6.result.now c.in_ok-check_stack.ensures
-    (c.deref-6.ensures.value ∙ (rw c.deref-2.ensures.value at c.in_ok-words.ensures.words))
-
-pub returns-clause-met : goal.returns-clause-met
-returns-clause-met c =
-    stack_last c.args.program.now c.args.asked.now (rw c.deref.ensures.value at c.in_ok-pc.ensures.met)
-    (rw c.deref-2.ensures.value at c.in_ok-words.ensures.met)
-    (rw c.deref-3.ensures.value at c.in_ok-hide_secrets.ensures.met)
-    (rw c.deref-4.ensures.value at c.in_ok-set_objects.ensures.met)
-    ∙ c.in_ok-check_stack.ensures
+pub new-requires : goal.new-requires
+new-requires c =
+    few_are c.args.program.now c.args.asked.now c.deref-4.result.now c.in_ok-memory.ensures.stack
+    (c.deref-4.ensures.value ∙ (rw c.deref-2.ensures.value at c.in_ok-words.ensures.words))
 
 pub returns-clause-pc : goal.returns-clause-pc
 returns-clause-pc c = rw c.deref.ensures.value at c.in_ok-pc.ensures.address
 
 pub returns-clause-registers : goal.returns-clause-registers
 returns-clause-registers c = λ r within.
-    let words = c.deref-6.ensures.value ∙ (rw c.deref-2.ensures.value at c.in_ok-words.ensures.words) in
-    c.new-registers.ensures.values r within
+    let words = c.deref-4.ensures.value ∙ (rw c.deref-2.ensures.value at c.in_ok-words.ensures.words) in
+    c.new.ensures.values r within
     ∙ ap (λ (word : Word). word.value)
-    (register_is c.args.program.now c.args.asked.now c.global_pointer.result c.deref-6.result.now r
+    (register_is c.args.program.now c.args.asked.now c.global_pointer.result c.deref-4.result.now r
     c.global_pointer.ensures words)
 
 pub returns-clause-unknown : goal.returns-clause-unknown
 returns-clause-unknown c = λ r within.
-    let words = c.deref-6.ensures.value ∙ (rw c.deref-2.ensures.value at c.in_ok-words.ensures.words) in
-    c.new-registers.ensures.unknown r within
+    let words = c.deref-4.ensures.value ∙ (rw c.deref-2.ensures.value at c.in_ok-words.ensures.words) in
+    c.new.ensures.unknown r within
     ∙ ap (λ (word : Word). word.unknown)
-    (register_is c.args.program.now c.args.asked.now c.global_pointer.result c.deref-6.result.now r
+    (register_is c.args.program.now c.args.asked.now c.global_pointer.result c.deref-4.result.now r
     c.global_pointer.ensures words)
-
-pub returns-clause-memory : goal.returns-clause-memory
-returns-clause-memory c =
-    let program = c.args.program.now in
-    let asked = c.args.asked.now in
-    let ranges = c.set_objects.new.ranges.items in
-    let range = c.in_ok-stack_range.field-0 in
-    ap (map range_of) c.in_ok-push.ensures.items ∙ map-append range_of ranges (range ∷ [])
-    ∙ memory_is program asked (map range_of c.in_ok-ranges.ranges.items) (map range_of c.hide_secrets.new.ranges.items)
-    (map range_of ranges) (range_of range) c.in_ok-words.words.items
-    (c.in_ok-ranges.ensures ∙ ap (map loaded) c.segments.ensures.segments)
-    (rw c.deref-3.ensures.value at c.in_ok-hide_secrets.ensures.memory)
-    (rw c.deref-4.ensures.value at c.in_ok-set_objects.ensures.memory)
-    (c.in_ok-stack_range.ensures ∙ ap (stack_range asked.stack) (c.pushed.ensures ∙ ap pushed c.deref-5.ensures.value))
-    (rw c.deref-2.ensures.value at c.in_ok-words.ensures.words)
