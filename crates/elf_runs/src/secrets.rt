@@ -6,7 +6,7 @@ ghost use Rattle.elf_runs.specs.Below.{object_named};
 ghost use Rattle.elf_runs.specs.Objects.{size_of};
 ghost use Rattle.elf_runs.specs.Drawn.{behind_place, first_bytes, first_secrets, flipped, numbers_of, other_bytes};
 ghost use Rattle.elf_runs.specs.Drawn.{other_secrets, size_in, with_bit_flipped};
-ghost use Rattle.elf_runs.specs.Witnessed.{set_bytes, set_size, SetEachSecret};
+ghost use Rattle.elf_runs.specs.Witnessed.{secret_size, set_bytes, set_size, SetEachSecret};
 
 use crate::asked::{Secret, Setting};
 use elf::Program;
@@ -88,6 +88,23 @@ fn size_of(program: &Program<'_>, secret: &Secret) -> usize
     }
 }
 
+/// What a secret is in the first run of a try.
+fn first_setting(
+    alloc: Global,
+    program: &Program<'_>,
+    secret: &Secret,
+    random: &mut Pcg32,
+    attempt: u64,
+) -> Result<Setting, AllocError>
+    ensures alike { IfOk result (λ setting. set_size setting ≡ secret_size program.now secret.now) }
+    ensures drawn { IfOk result (λ setting. (set_bytes setting, numbers_of random.new)
+        ≡ first_bytes attempt (size_in program.now secret.now) (numbers_of random.old)) }
+{
+    let bytes = first_bytes(alloc, random, attempt, size_of(program, secret))?;
+    let object = Vec::from_slice(alloc, &secret.object)?;
+    Ok(Setting { object, bytes })
+}
+
 /// What the secrets are in the first run of a try.
 pub(crate) fn first_secrets(
     alloc: Global,
@@ -102,11 +119,26 @@ pub(crate) fn first_secrets(
 {
     let mut settings = Vec::new(alloc);
     'secrets: for secret in secrets {
-        let bytes = first_bytes(alloc, random, attempt, size_of(program, secret))?;
-        let object = Vec::from_slice(alloc, &secret.object)?;
-        settings.push(Setting { object, bytes })?;
+        settings.push(first_setting(alloc, program, secret, random, attempt)?)?;
     }
     Ok(settings)
+}
+
+/// What a secret is in the second run, by what it is in the first.
+fn other_setting(
+    alloc: Global,
+    first: &Setting,
+    random: &mut Pcg32,
+    attempt: u64,
+) -> Result<Setting, AllocError>
+    ensures alike { IfOk result (λ setting. set_size setting ≡ set_size first.now) }
+    ensures drawn { IfOk result (λ setting. (set_bytes setting, numbers_of random.new)
+        ≡ other_bytes attempt (set_bytes first.now) (numbers_of random.old)) }
+{
+    let mut bytes = Vec::from_slice(alloc, &first.bytes)?;
+    change(random, attempt, &mut bytes);
+    let object = Vec::from_slice(alloc, &first.object)?;
+    Ok(Setting { object, bytes })
 }
 
 /// What they are in the second run, by what they are in the first.
@@ -122,10 +154,7 @@ pub(crate) fn other_secrets(
 {
     let mut settings = Vec::new(alloc);
     'firsts: for first in firsts {
-        let mut bytes = Vec::from_slice(alloc, &first.bytes)?;
-        change(random, attempt, &mut bytes);
-        let object = Vec::from_slice(alloc, &first.object)?;
-        settings.push(Setting { object, bytes })?;
+        settings.push(other_setting(alloc, first, random, attempt)?)?;
     }
     Ok(settings)
 }
