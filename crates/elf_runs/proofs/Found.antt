@@ -3,7 +3,7 @@ use Rattle.std.proofs.Common.{◌≡◌, ℕ, [], List, None, refl, sym, ◌∙�
 use Rattle.std.proofs.lemmas.Option.{none-some}
 use Rattle.elf_runs.specs.declared.fault.StartFault.TheVariants.{Memory, Refused}
 use Rattle.elf_runs.specs.declared.asked.Asked.{Asked}
-use Rattle.elf_runs.specs.Below.{Executable, Observation, paged_bytes, program_of, state_of}
+use Rattle.elf_runs.specs.Below.{Executable, Observation, paged_bytes, Profile, program_of, state_of}
 use Rattle.elf_runs.specs.Needs.{first_unmet, IsTold, needs}
 use Rattle.elf_runs.specs.declared.asked.Setting.{Setting}
 use Rattle.elf_runs.specs.declared.fault.StartFault.{StartFault}
@@ -37,14 +37,19 @@ module _ {program : Executable} {asked besides : Asked} {options : RunOptions} {
     shows = rw (is.program_is, is.state, is.steps) at shown;
   }
 
-  -- the calls of a run are those of one that begins alike
-  pub calls_so : {other : Asked} {secrets : List Setting} {entries : ℕ} {calls : List ℕ}
-      → SetsBesides asked secrets besides → SetsBesides asked secrets other
-      → LeadThere (program_of loaded.program) (state_of loaded.run.hart (paged_bytes loaded.run.memory)) entries calls
-      → LeadThere (machine_program program other options.profile) (state_at_start program other) entries calls
-  calls_so sets also calls =
-      rw (is.program_is, is.state, same_program program sets also options.profile, same_start program sets also) at
-      calls
+pub calls_so : {program : Executable} {asked : Asked} {options : RunOptions} {loaded : LoadedFunction} {entries : ℕ}
+    {calls : List ℕ} → IsLoaded program asked options loaded
+    → LeadThere (program_of loaded.program) (state_of loaded.run.hart (paged_bytes loaded.run.memory)) entries calls
+    → LeadThere (machine_program program asked options.profile) (state_at_start program asked) entries calls
+calls_so is calls = rw (is.program_is, is.state) at calls
+
+-- the calls of a run are those of one that begins alike
+pub calls_alike : (program : Executable) {asked one other : Asked} {secrets : List Setting} (profile : Profile)
+    {entries : ℕ} {calls : List ℕ} → SetsBesides asked secrets one → SetsBesides asked secrets other
+    → LeadThere (machine_program program one profile) (state_at_start program one) entries calls
+    → LeadThere (machine_program program other profile) (state_at_start program other) entries calls
+calls_alike program profile sets also calls =
+    rw (same_program program sets also profile, same_start program sets also) at calls
 
 -- what is found of a request is found of one that is as it is
 pub runs_same : {program : Executable} {asked same besides : Asked} {options : RunOptions} {secrets : List Setting}

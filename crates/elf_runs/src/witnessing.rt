@@ -4,8 +4,11 @@ ghost use Rattle.std.specs.Prelude.{◌≡◌, ◌^◌, ◌<◌, [], None, IfErr
 ghost use Rattle.elf_runs.specs.declared.asked.Asked.{Asked};
 ghost use Rattle.elf_runs.specs.Needs.{first_unmet, IsTold, needs};
 ghost use Rattle.elf_runs.specs.declared.fault.StartFault.{StartFault};
-ghost use Rattle.elf_runs.specs.Drawn.{tries_of};
+ghost use Rattle.elf_runs.specs.Drawn.{numbers_of, tries_of};
 ghost use Rattle.elf_runs.specs.Witnessed.{FoundFirst, IsWitness, SetEachSecret, SetsBesides, ShowsSame};
+ghost use Rattle.elf_runs.specs.Calls.{LeadThere};
+ghost use Rattle.elf_runs.specs.Loading.{machine_program, state_at_start};
+ghost use Rattle.elf_runs.specs.private.ComparedRuns.{ComparedBy, IsTried};
 ghost use Rattle.elf_runs.specs.private.Loaded.{IsLoaded};
 
 use crate::asked::{Asked, Setting};
@@ -60,6 +63,63 @@ fn load_besides(
     Ok(loaded)
 }
 
+/// Two runs of the function, the one with these secrets and the other with those, compared.
+fn compare_by(
+    alloc: Global,
+    program: &Program<'_>,
+    asked: &mut Asked,
+    options: RunOptions,
+    one: &mut Vec<Setting>,
+    other: &mut Vec<Setting>,
+) -> Result<Comparison, StartFault>
+    requires few { options.steps < 2 ^ 63 }
+    requires met { first_unmet (needs program.now asked.old) ≡ None }
+    requires each { SetEachSecret program.now asked.old.secrets.items one.old.items }
+    requires each_other { SetEachSecret program.now asked.old.secrets.items other.old.items }
+    ensures compared { IfOk result (ComparedBy program.now asked.old options one.old.items other.old.items) }
+    ensures asked { OnOk result (SetsBesides asked.old [] asked.new) }
+    ensures one { OnOk result (one.new.items ≡ one.old.items) }
+    ensures other { OnOk result (other.new.items ≡ other.old.items) }
+    ensures fault { IfErr result (λ fault. fault ≡ StartFault.Memory) }
+{
+    let mut first = load_besides(alloc, program, asked, options, one)?;
+    let mut second = load_besides(alloc, program, asked, options, other)?;
+    Ok(compare(
+        &first.program,
+        &mut first.run,
+        &second.program,
+        &mut second.run,
+    ))
+}
+
+/// The calls that lead to the step behind so many entries of the function's run with these secrets.
+fn calls_by(
+    alloc: Global,
+    program: &Program<'_>,
+    asked: &mut Asked,
+    options: RunOptions,
+    secrets: &mut Vec<Setting>,
+    entries: u64,
+) -> Result<Calls, StartFault>
+    requires met { first_unmet (needs program.now asked.old) ≡ None }
+    requires each { SetEachSecret program.now asked.old.secrets.items secrets.old.items }
+    ensures calls { IfOk result (λ calls. (besides : Asked)
+        × SetsBesides asked.old secrets.old.items besides
+        × LeadThere (machine_program program.now besides options.profile) (state_at_start program.now besides)
+        entries calls.items) }
+    ensures asked { OnOk result (SetsBesides asked.old [] asked.new) }
+    ensures secrets { OnOk result (secrets.new.items ≡ secrets.old.items) }
+    ensures fault { IfErr result (λ fault. fault ≡ StartFault.Memory) }
+{
+    let mut loaded = load_besides(alloc, program, asked, options, secrets)?;
+    Ok(calls_behind_entries(
+        &loaded.program,
+        &mut loaded.run.hart,
+        &mut loaded.run.memory,
+        entries,
+    ))
+}
+
 /// The witness that these secrets are, if they are one.
 fn witness_by(
     alloc: Global,
@@ -82,24 +142,11 @@ fn witness_by(
     ensures asked { OnOk result (SetsBesides asked.old [] asked.new) }
     ensures fault { IfErr result (λ fault. fault ≡ StartFault.Memory) }
 {
-    let mut first = load_besides(alloc, program, asked, options, &mut one)?;
-    let mut second = load_besides(alloc, program, asked, options, &mut other)?;
-    let compared = compare(
-        &first.program,
-        &mut first.run,
-        &second.program,
-        &mut second.run,
-    );
+    let compared = compare_by(alloc, program, asked, options, &mut one, &mut other)?;
     let Comparison::Differ { entry, step } = compared else {
         return Ok(None);
     };
-    let mut again = load_besides(alloc, program, asked, options, &mut one)?;
-    let calls = calls_behind_entries(
-        &again.program,
-        &mut again.run.hart,
-        &mut again.run.memory,
-        step.entries,
-    );
+    let calls = calls_by(alloc, program, asked, options, &mut one, step.entries)?;
     Ok(Some(Witness {
         one,
         other,
@@ -107,6 +154,27 @@ fn witness_by(
         step,
         calls,
     }))
+}
+
+/// The witness that the secrets of a try are, if they are one.
+fn witness_of_try(
+    alloc: Global,
+    program: &Program<'_>,
+    asked: &mut Asked,
+    options: RunOptions,
+    random: &mut Pcg32,
+    attempt: u64,
+) -> Result<Option<Witness>, StartFault>
+    requires few { options.steps < 2 ^ 63 }
+    requires met { first_unmet (needs program.now asked.old) ≡ None }
+    ensures tried { IfOk result (IsTried program.now asked.old options attempt (numbers_of random.old)
+        (numbers_of random.new)) }
+    ensures asked { OnOk result (SetsBesides asked.old [] asked.new) }
+    ensures fault { IfErr result (λ fault. fault ≡ StartFault.Memory) }
+{
+    let one = first_secrets(alloc, program, &asked.secrets, random, attempt)?;
+    let other = other_secrets(alloc, &one, random, attempt)?;
+    witness_by(alloc, program, asked, options, one, other)
 }
 
 /// Two runs of a function that differ in what is secret alone, and of which an observer sees not the same: those of the
@@ -132,9 +200,7 @@ pub fn find_witness(
     load_function(alloc, program, &asked, options)?;
     let mut random = Pcg32::new(FIRST_STATE, STREAM);
     'tries: for attempt in 0..tries {
-        let one = first_secrets(alloc, program, &asked.secrets, &mut random, attempt)?;
-        let other = other_secrets(alloc, &one, &mut random, attempt)?;
-        let found = witness_by(alloc, program, &mut asked, options, one, other)?;
+        let found = witness_of_try(alloc, program, &mut asked, options, &mut random, attempt)?;
         if found.is_some() {
             return Ok(found);
         }

@@ -7,13 +7,13 @@ use Rattle.elf_runs.proofs.Tries.{finds, finds_nothing, next_try, none_found}
 use Rattle.elf_runs.specs.Drawn.{numbers_of, size_in}
 use Rattle.elf_runs.proofs.witnessing.find_witness.Goals as goal
 
-pub witness_by-requires-clause-met : goal.witness_by-requires-clause-met
-witness_by-requires-clause-met c =
+pub witness_of_try-requires-clause-met : goal.witness_of_try-requires-clause-met
+witness_of_try-requires-clause-met c =
     met_same c.args.program.now c.args.asked c.tries.asked c.tries.invariant.same c.in_ok-load_function.ensures.met
 
 pub returns-then-is_some-clause-witness : goal.returns-then-is_some-clause-witness
 returns-then-is_some-clause-witness c =
-    IfSome_then c.in_ok-found.found c.in_ok-found.ensures.witness (witness_same c.tries.invariant.same)
+    IfSome_then c.in_ok-found.found c.in_ok-found.ensures.tried.witness (witness_same c.tries.invariant.same)
 
 pub tries-init : goal.tries-init
 tries-init c =
@@ -28,14 +28,12 @@ tries-preserved c =
     let program = c.args.program.now in
     let asked = c.args.asked in
     let before = c.tries.invariant in
-    let one = c.in_ok-one.one.items in
-    let other = c.in_ok-other.other.items in
-    let drawn = rw (c.deref.ensures.value, before.same.secrets) at c.in_ok-one.ensures.drawn in
-    let drawn' = rw c.deref-in-tries.ensures.value at c.in_ok-other.ensures.drawn in
-    let next = next_try c.args.tries c.tries.attempt (map (size_in program) asked.secrets.items) one other
-    (numbers_of c.tries.random) (omega arith) drawn drawn' in
+    let tried = c.in_ok-found.ensures.tried in
+    let drawn = rw before.same.secrets at tried.drawn in
+    let next = next_try c.args.tries c.tries.attempt (map (size_in program) asked.secrets.items) tried.one tried.other
+    (numbers_of c.tries.random) (omega arith) drawn tried.drawn' in
     let none = none_found c.in_ok-found.found (sym c.is_some.ensures ∙ c.if-is_some.false) in
-    let nothing = finds_nothing before.same one other (c.in_ok-found.ensures.same none) in
+    let nothing = finds_nothing before.same tried.one tried.other (tried.same none) in
     record {
       same = sets_after before.same c.in_ok-found.ensures.asked;
       first = λ found rest. before.first found (rw next (inr (nothing, rest)));
@@ -46,14 +44,12 @@ returns-then-is_some-clause-first c =
     let program = c.args.program.now in
     let asked = c.args.asked in
     let before = c.tries.invariant in
-    let one = c.in_ok-one.one.items in
-    let other = c.in_ok-other.other.items in
-    let drawn = rw (c.deref.ensures.value, before.same.secrets) at c.in_ok-one.ensures.drawn in
-    let drawn' = rw c.deref-in-tries.ensures.value at c.in_ok-other.ensures.drawn in
-    let next = next_try c.args.tries c.tries.attempt (map (size_in program) asked.secrets.items) one other
-    (numbers_of c.tries.random) (omega arith) drawn drawn' in
-    let found = finds before.same one other c.in_ok-found.found (sym c.is_some.ensures ∙ c.if-is_some.true)
-    c.in_ok-found.ensures.witness c.in_ok-found.ensures.given in
+    let tried = c.in_ok-found.ensures.tried in
+    let drawn = rw before.same.secrets at tried.drawn in
+    let next = next_try c.args.tries c.tries.attempt (map (size_in program) asked.secrets.items) tried.one tried.other
+    (numbers_of c.tries.random) (omega arith) drawn tried.drawn' in
+    let found = finds before.same tried.one tried.other c.in_ok-found.found (sym c.is_some.ensures ∙ c.if-is_some.true)
+    tried.witness tried.given in
     before.first c.in_ok-found.found (rw next (inl found))
 
 pub returns-clause-first : goal.returns-clause-first
