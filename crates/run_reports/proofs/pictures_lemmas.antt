@@ -3,3 +3,4 @@ pub mod Filled
 pub mod Painted
 pub mod Reported
 pub mod Sizes
+pub mod Written
