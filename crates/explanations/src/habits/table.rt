@@ -68,7 +68,7 @@ const BEFORE_OPERANDS: &str =
 const COMPARISONS: &str = "== != < <= > >=";
 
 /// Habits of statements, of comments and of steps.
-const STATEMENTS: [Habit; 15] = [
+const STATEMENT_HABITS: [Habit; 15] = [
     Habit {
         here: "/",
         next: "*",
@@ -161,8 +161,8 @@ const STATEMENTS: [Habit; 15] = [
     },
 ];
 
-/// Habits of types and declarations.
-const DECLARATIONS: [Habit; 26] = [
+/// Habits of types, of pointers and of what is included.
+const TYPE_HABITS: [Habit; 15] = [
     Habit {
         here: DECLARERS,
         advice: FIELDS,
@@ -250,6 +250,10 @@ const DECLARATIONS: [Habit; 26] = [
         advice: POINTER,
         ..ANYWHERE
     },
+];
+
+/// Habits of declarations.
+const DECLARATION_HABITS: [Habit; 11] = [
     Habit {
         region: Some(Region::Outside),
         second: TYPES,
@@ -326,7 +330,7 @@ const DECLARATIONS: [Habit; 26] = [
 ];
 
 /// Habits of expressions, and of what stands around blocks.
-const EXPRESSIONS: [Habit; 13] = [
+const EXPRESSION_HABITS: [Habit; 13] = [
     Habit {
         before: ">>",
         here: ">",
@@ -412,25 +416,32 @@ const EXPRESSIONS: [Habit; 13] = [
     },
 ];
 
-/// The beginning of the table.
+/// The habits of statements, with which the table begins.
 fn statements() -> &'static [Habit]
     ensures { map shown result.now ≡ take 15 habits }
 {
-    &STATEMENTS
+    &STATEMENT_HABITS
 }
 
-/// What stands behind it.
-fn declarations() -> &'static [Habit]
-    ensures { map shown result.now ≡ take 26 (drop 15 habits) }
+/// Those of types, behind them.
+fn types() -> &'static [Habit]
+    ensures { map shown result.now ≡ take 15 (drop 15 habits) }
 {
-    &DECLARATIONS
+    &TYPE_HABITS
 }
 
-/// The rest of the table.
+/// Those of declarations, behind these.
+fn declarations() -> &'static [Habit]
+    ensures { map shown result.now ≡ take 11 (drop 30 habits) }
+{
+    &DECLARATION_HABITS
+}
+
+/// Those of expressions, with which it ends.
 fn expressions() -> &'static [Habit]
     ensures { map shown result.now ≡ drop 41 habits }
 {
-    &EXPRESSIONS
+    &EXPRESSION_HABITS
 }
 
 /// Whether a text is one of some words, which have a blank between them.
@@ -481,6 +492,7 @@ fn habit_at(spot: &Spot<'_>) -> Option<Habit>
     ensures { option_map shown result ≡ find (fits (spot_of spot.now)) habits }
 {
     first_fitting(spot, statements())
+        .or(first_fitting(spot, types()))
         .or(first_fitting(spot, declarations()))
         .or(first_fitting(spot, expressions()))
 }
