@@ -1,5 +1,6 @@
 -- The function is loaded as the request asks with more that is set.
-use Rattle.std.proofs.Common.{refl, ◌∙◌, ap}
+use Rattle.std.proofs.Common.{◌≡◌, append-nil, arith, drop, length, refl, sym, take, ◌∙◌, ap, ap₂}
+use Rattle.std.proofs.Math.Seq.{drop-append_seam, take-append_seam}
 use Rattle.std.proofs.lemmas.Result.{err_from_is_err_and}
 use Rattle.elf_runs.specs.declared.asked.Asked.{Asked}
 use Rattle.elf_runs.specs.Below.{KnownState}
@@ -42,3 +43,24 @@ returns-clause-loaded c =
         steps = c.in_ok-loaded.ensures.steps;
       },
     )
+
+pub returns-clause-asked : goal.returns-clause-asked
+returns-clause-asked c =
+    let settings = c.args.asked.now.settings in
+    let count : c.len-set.result ≡ length settings.items = omega (arith, c.len-set.ensures, settings.ok.0) in
+    record {
+      function = refl;
+      arguments = refl;
+      secrets = refl;
+      settings =
+          c.in_ok-more.ensures.items ∙ ap₂ (λ n items. take n items) count c.in_ok-append.ensures.items
+          ∙ take-append_seam settings.items c.args.more.now.items ∙ sym (append-nil settings.items);
+      stack = refl;
+    }
+
+pub returns-clause-more : goal.returns-clause-more
+returns-clause-more c =
+    let settings = c.args.asked.now.settings in
+    let count : c.len-set.result ≡ length settings.items = omega (arith, c.len-set.ensures, settings.ok.0) in
+    c.in_ok-more.ensures.tail ∙ ap₂ (λ n items. drop n items) count c.in_ok-append.ensures.items
+    ∙ drop-append_seam settings.items c.args.more.now.items
