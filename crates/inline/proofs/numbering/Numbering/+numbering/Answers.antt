@@ -40,6 +40,17 @@ block-returns-clause-block t c =
     sym (chain_nothing (flat_block l.flat.items))
     ∙ (rw (drop_all l.statement-index c.args.block.now c.loop-statement-test.false) at l.invariant.block)
 
+pub block-returns-clause-names : goal.block-returns-clause-names
+block-returns-clause-names t c =
+    let l = c.loop-statement in
+    rw (drop_all l.statement-index c.args.block.now c.loop-statement-test.false) at l.invariant.names
+
+pub block-returns-clause-declared : goal.block-returns-clause-declared
+block-returns-clause-declared t c =
+    let l = c.loop-statement in
+    sym (append-nil l.declared.items)
+    ∙ (rw (drop_all l.statement-index c.args.block.now c.loop-statement-test.false) at l.invariant.declared)
+
 pub branch-returns-clause-block : goal.branch-returns-clause-block
 branch-returns-clause-block t c =
     rw (

@@ -1,5 +1,5 @@
 use Rattle.std.proofs.Common.{arith, ◌≡◌, ◌+◌, ◌-◌, ◌∷◌, ap, drop, length, length-append, sym, ◌∙◌}
-use Rattle.std.proofs.lemmas.List.{append_assoc, drop_all, drop_more}
+use Rattle.std.proofs.lemmas.List.{append-nil, append_assoc, drop_all, drop_more}
 use Rattle.inline.specs.Flat.{flat_block, length_of}
 use Rattle.inline.specs.Callees.{called_by}
 use Rattle.inline.specs.Below.{statement_tree}
@@ -53,3 +53,20 @@ returns-clause-block c =
     let l = c.loop-statement in
     sym (chain_nothing (flat_block l.flat.items))
     ∙ (rw (drop_all l.statement-index c.args.block.now c.loop-statement-test.false) at l.invariant.block)
+
+pub returns-clause-names : goal.returns-clause-names
+returns-clause-names c =
+    let l = c.loop-statement in
+    rw (drop_all l.statement-index c.args.block.now c.loop-statement-test.false) at l.invariant.names
+
+pub returns-clause-stretches : goal.returns-clause-stretches
+returns-clause-stretches c =
+    let l = c.loop-statement in
+    sym (append-nil l.all.items)
+    ∙ (rw (drop_all l.statement-index c.args.block.now c.loop-statement-test.false) at l.invariant.stretches)
+
+pub returns-clause-declared : goal.returns-clause-declared
+returns-clause-declared c =
+    let l = c.loop-statement in
+    sym (append-nil l.declared.items)
+    ∙ (rw (drop_all l.statement-index c.args.block.now c.loop-statement-test.false) at l.invariant.declared)
