@@ -1,19 +1,20 @@
 // A statement's code, and how many slots and how many loops in one another statements take.
 
 ghost use Rattle.std.specs.Prelude.{◌≡◌, ◌++◌, ◌+◌, ◌*◌, ◌<◌, ◌≤◌, map, length, IfErr, OnOk};
-ghost use Rattle.codegen.specs.Below.{array_words, straight_block, straight_tree, term_tree};
+ghost use Rattle.codegen.specs.Below.{array_words, straight_block, straight_tree, term_tree, variable as variable_tree};
 ghost use Rattle.branch_removal.specs.Straight as straight;
 ghost use Rattle.codegen.specs.private.Emitted.{branching_code, set_code, statement_code, block_code};
 ghost use Rattle.codegen.specs.expression_code.Layout.{variable_location};
 ghost use Rattle.codegen.specs.private.Jumps.{AreNear, IsFar};
 ghost use Rattle.codegen.specs.private.Placed.{IsPlaced, HasPlace, HavePlaces};
+ghost use Rattle.codegen.specs.private.WordPuts.{word_code};
 
 use crate::assigned::any_sets;
 use crate::expression_code::{Layout, Location, emit, fetch, into};
 use crate::loops::Loop;
 use crate::reading::{assign, gives_zero, read};
 use crate::unemitted::Unemitted;
-use crate::word_puts::word_put;
+use crate::word_puts::{WordPut, word_put};
 use crate::{arrays, comparing, jumping, loops, masking};
 use branch_removal::StraightStatement;
 use inline::Term;
@@ -135,6 +136,14 @@ fn branch(
     jumping::branch(code, register, accepted, otherwise)
 }
 
+/// A variable into a word of the frame.
+fn store_word(code: &mut Vec<Instr>, layout: &Layout<'_>, put: WordPut) -> Result<(), AllocError>
+    requires { IsPlaced layout.now 0 (variable_tree put.variable) }
+    ensures { OnOk result (code.new.items ≡ code.old.items ++ word_code layout.now put) }
+{
+    assign(code, layout, &Term::Variable(put.variable), put.offset)
+}
+
 /// A statement that so many loops are around. A jump that does not reach refuses it, or running out of memory.
 #[cycle(statements)]
 fn statement(
@@ -203,7 +212,7 @@ pub fn statements(
     let mut rest = statements;
     while let Some((each, more)) = rest.split_first() {
         if let Some(put) = word_put(layout, rest) {
-            assign(code, layout, &Term::Variable(put.variable), put.offset)?;
+            store_word(code, layout, put)?;
             rest = &more[3..];
         } else {
             statement(alloc, code, layout, depth, each)?;
