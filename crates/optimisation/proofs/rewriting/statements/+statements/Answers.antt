@@ -62,3 +62,19 @@ push_all-returns g t c =
     let l = c.loop-each in
     let none = at_drop_all (λ xs. straight_block xs) c.args.body.now l.each-index c.loop-each-test.false in
     rw (← l.invariant, none, chain-nothing) refl
+
+pub rewritten_statement-returns-in_ok-value-in-Set : goal.rewritten_statement-returns-in_ok-value-in-Set
+rewritten_statement-returns-in_ok-value-in-Set g t c =
+    rw (c.in-Set.is, c.in_ok-value-in-Set.ensures) refl
+
+pub rewritten_statement-returns-in_ok-values-in-Array : goal.rewritten_statement-returns-in_ok-values-in-Array
+rewritten_statement-returns-in_ok-values-in-Array g t c =
+    rw (c.in-Array.is, c.in_ok-values-in-Array.ensures, c.deref.ensures.value) refl
+
+pub rewritten_statement-returns-in_ok-value-in-Put : goal.rewritten_statement-returns-in_ok-value-in-Put
+rewritten_statement-returns-in_ok-value-in-Put g t c =
+    rw (c.in-Put.is, c.in_ok-index-in-Put.ensures, c.in_ok-value-in-Put.ensures) refl
+
+pub rewritten_statement-returns-in_ok-condition-in-Take : goal.rewritten_statement-returns-in_ok-condition-in-Take
+rewritten_statement-returns-in_ok-condition-in-Take g t c =
+    rw (c.in-Take.is, c.in_ok-condition-in-Take.ensures) refl
