@@ -64,3 +64,6 @@ block-returns t c =
     let l = c.loop-each in
     let none = at_drop_all (λ xs. straight_block xs) c.args.body.now l.each-index c.loop-each-test.false in
     rw (← l.invariant, none, chain-nothing) refl
+
+pub statement-returns-in-Array : goal.statement-returns-in-Array
+statement-returns-in-Array t c = rw (c.in-Array.is, ← c.deref.ensures.value) c.new_array.ensures

@@ -1,4 +1,6 @@
 use Rattle.std.proofs.Common.{rules, refl}
+use Rattle.std.proofs.lemmas.List.{at_drop_all}
+use Rattle.optimisation.specs.Below.{straight_block}
 use Rattle.branch_removal.proofs.StatementTrees.{tree_of_branch, tree_of_loop, accepted_smaller, otherwise_smaller}
 use Rattle.branch_removal.proofs.StatementTrees.{body_smaller, item_here, smaller_here}
 use Rattle.optimisation.proofs.high_products.finding.+finding.Goals as goal
@@ -50,3 +52,17 @@ one_makes_in-makes_in-requires t c =
     let l = c.loop-statement in
     let here = item_here c.args.statements.now l.statement-index s c.loop-statement-test.true c.statement-item.is in
     search (rules, smaller_here c.args.statements.now l.statement-index s here)
+
+pub one_makes_in-loop-statement-preserved : goal.one_makes_in-loop-statement-preserved
+one_makes_in-loop-statement-preserved t c =
+    let l = c.loop-statement in
+    let here = item_here c.args.statements.now l.statement-index c.statement-item.result c.loop-statement-test.true
+    c.statement-item.is in
+    rw (← l.invariant, here, ← c.makes_in.ensures, c.if-makes_in.false) refl
+
+pub one_makes_in-returns : goal.one_makes_in-returns
+one_makes_in-returns t c =
+    let l = c.loop-statement in
+    let none = at_drop_all (λ xs. straight_block xs) c.args.statements.now l.statement-index
+    c.loop-statement-test.false in
+    rw (← l.invariant, none) refl
