@@ -82,6 +82,7 @@ RECURSIONS = [
     ("optimisation/src/constants/costs.rt", "costs", "nothing is added: what code takes is counted"),
     ("optimisation/src/constants/known.rt", "forgetting", "nothing is added: what is known of a variable is taken away"),
     ("optimisation/src/constants/statements.rt", "simplification", "the statements, and the iterations that are unrolled"),
+    ("optimisation/src/constants/terms.rt", "simple", "the nodes of an expression, each of which is followed once"),
     ("optimisation/src/element_words/narrowing.rt", "narrowing", "nothing is added: an entry an array is there before"),
     ("optimisation/src/element_words/statements.rt", "splitting", "the statements of straight code, each of which is followed once"),
     ("optimisation/src/iteration_groups/losses.rt", "losses", "nothing is added: what is lost is counted"),

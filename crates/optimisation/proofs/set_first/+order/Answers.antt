@@ -62,8 +62,7 @@ all_set_first-loop-statement-preserved t c =
     let l = c.loop-statement in
     let here = item_here c.args.body.now l.statement-index c.statement-item.result c.loop-statement-test.true
     c.statement-item.is in
-    let fine = rw c.as_slice.ensures.value at c.in_ok-sets_first.ensures in
-    (
+    let fine = rw c.as_slice.ensures.value at c.in_ok-sets_first.ensures in (
       rw (c.note_set_by.ensures, ← l.invariant.0, here, ← fine, c.if-not-branch.false) refl,
       rw (c.note_set_by.ensures, ← l.invariant.1, here) refl,
     )

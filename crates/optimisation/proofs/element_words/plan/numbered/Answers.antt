@@ -1,4 +1,4 @@
-use Rattle.std.proofs.Common.{◌≡◌, ◌+◌, ◌<◌, ◌≤◌, None, drop, length, append-nil, refl, arith}
+use Rattle.std.proofs.Common.{◌+◌, ◌<◌, ◌≤◌, None, drop, length, append-nil, refl, arith}
 use Rattle.std.proofs.lemmas.List.{at_drop_all, drop_more}
 use Rattle.optimisation.specs.element_words.private.Parts.{numbered}
 use Rattle.optimisation.proofs.element_words.plan.numbered.Goals as goal

@@ -1,4 +1,4 @@
-use Rattle.std.proofs.Common.{◌≡◌, ◌+◌, ◌<◌, ◌≤◌, None, length, append_assoc, append-nil, refl}
+use Rattle.std.proofs.Common.{◌<◌, ◌≤◌, None, length, append_assoc, append-nil, refl}
 use Rattle.std.proofs.lemmas.List.{at_drop_all, at_drop_more}
 use Rattle.optimisation.specs.element_words.private.Parts.{all_words}
 use Rattle.optimisation.proofs.element_words.plan.with_words.Goals.{in-Some+in_ok-push_words, in_default}
@@ -12,12 +12,12 @@ loop-part-preserved c =
     let low : l.part-index < length all = rw items at c.loop-part-test.true in
     let here = at_drop_more all_words all l.part-index None low in
     elim c.match-part.branch [
-      in-Some+in_ok-push_words w ↦
-        let some = rw items at w.in-Some.is in
-        rw (w.declared-is, w.in_ok-push_words.ensures, append_assoc, ← l.invariant, here, some) refl
-    | in_default w ↦
-        let none = rw items at w.in_default.is in
-        rw (w.declared-is, ← l.invariant, here, none) refl
+      | in-Some+in_ok-push_words w ↦
+          let some = rw items at w.in-Some.is in
+          rw (w.declared-is, w.in_ok-push_words.ensures, append_assoc, ← l.invariant, here, some) refl
+      | in_default w ↦
+          let none = rw items at w.in_default.is in
+          rw (w.declared-is, ← l.invariant, here, none) refl
     ]
 
 pub returns : goal.returns
