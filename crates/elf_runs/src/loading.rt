@@ -6,8 +6,8 @@ ghost use Rattle.elf_runs.specs.Below.{state_of};
 ghost use Rattle.elf_runs.specs.Needs.{first_unmet, IsTold, needs};
 ghost use Rattle.elf_runs.specs.Code.{halfwords_from, placed, words_from};
 ghost use Rattle.elf_runs.specs.Memory.{range_of};
-ghost use Rattle.elf_runs.specs.Loading.{alignment_by, code_among, item_at, known_at_start, machine_program};
-ghost use Rattle.elf_runs.specs.Loading.{may_be_stored_to};
+ghost use Rattle.elf_runs.specs.Loading.{alignment_by, code_among, is_variable, item_at, known_at_start};
+ghost use Rattle.elf_runs.specs.Loading.{machine_program, may_be_stored_to};
 ghost use Rattle.elf_runs.specs.private.Loaded.{IsSegmentOf, program_over};
 
 use crate::asked::Asked;
@@ -116,6 +116,13 @@ fn addresses_of(range: &MemoryRange) -> AddressRange
     }
 }
 
+/// Whether a range may be stored to.
+fn is_variable(range: &MemoryRange) -> bool
+    ensures { result ≡ is_variable (range_of range.now) }
+{
+    range.access.writable && !range.access.executable
+}
+
 /// The ranges that may be stored to.
 fn variable_ranges(alloc: Global, ranges: &[MemoryRange]) -> Result<Vec<AddressRange>, AllocError>
     ensures { IfOk result (λ variable.
@@ -123,7 +130,7 @@ fn variable_ranges(alloc: Global, ranges: &[MemoryRange]) -> Result<Vec<AddressR
 {
     let mut variable = Vec::new(alloc);
     'each: for range in ranges {
-        if range.access.writable && !range.access.executable {
+        if is_variable(range) {
             variable.push(addresses_of(range))?;
         }
     }

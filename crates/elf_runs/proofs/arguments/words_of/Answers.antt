@@ -1,7 +1,7 @@
-use Rattle.std.proofs.Common.{◌≡◌, ◌∙◌, ◌+◌, ◌<◌, ◌++◌, ◌∷◌, ℕ, List, [], ap, ap₂, get_or, length, map, sym, take}
-use Rattle.std.proofs.lemmas.List.{map_more}
+use Rattle.std.proofs.Common.{◌≡◌, ◌∙◌, ◌+◌, ◌<◌, ◌++◌, ◌∷◌, ℕ, List, [], ap, ap₂, arith, get_or, length, map, sym, take}
+use Rattle.std.proofs.lemmas.List.{at_drop_all, map_more, take_all}
 use Rattle.elf_runs.specs.Arguments.{word_of}
-use Rattle.elf_runs.specs.Needs.{argument_needs, each_from}
+use Rattle.elf_runs.specs.Needs.{argument_needs, each_from, first_unmet}
 use Rattle.elf_runs.proofs.Meeting.{item_held, item_there, item_unmet, told_on}
 use Rattle.elf_runs.proofs.arguments.words_of.Goals as goal
 
@@ -42,3 +42,17 @@ arguments-preserved c =
           more_words (word_of program) arguments k argument c.arguments.words.items c.push.new.self.items c.word_of.result
           within is c.arguments.invariant.words c.word_of.ensures c.in_ok-push.ensures.items;
     }
+
+pub returns-clause-met : goal.returns-clause-met
+returns-clause-met c =
+    let needs = argument_needs c.args.program.now in
+    let k = c.arguments.k in
+    c.arguments.invariant.met
+    ∙ at_drop_all (λ rest. first_unmet (each_from needs k rest)) c.args.arguments.now k
+    (omega (arith, c.arguments-test.false))
+
+pub returns-clause-words : goal.returns-clause-words
+returns-clause-words c =
+    c.arguments.invariant.words
+    ∙ ap (map (word_of c.args.program.now))
+    (take_all c.arguments.k c.args.arguments.now (omega (arith, c.arguments-test.false)))

@@ -1,7 +1,8 @@
-use Rattle.std.proofs.Common.{◌≡◌, ◌∙◌, ◌+◌, ap, drop, map, sym}
+use Rattle.std.proofs.Common.{◌≡◌, ◌∙◌, ◌+◌, ap, arith, drop, map, sym}
+use Rattle.std.proofs.lemmas.List.{at_drop_all}
 use Rattle.std.specs.List.{fold}
 use Rattle.elf_runs.specs.Memory.{hide_in, hide_object, range_of}
-use Rattle.elf_runs.specs.Needs.{each_from, secret_needs}
+use Rattle.elf_runs.specs.Needs.{each_from, first_unmet, secret_needs}
 use Rattle.elf_runs.proofs.Meeting.{item_held, item_there, item_unmet, told_on}
 use Rattle.elf_runs.proofs.settings.hide_secrets.Goals as goal
 
@@ -32,3 +33,17 @@ secrets-preserved c =
           c.secrets.invariant.hidden ∙ ap (fold (hide_in program) ranges) next
           ∙ ap (λ old. fold (hide_in program) old (drop (k + 1) secrets)) (sym hidden);
     }
+
+pub returns-clause-met : goal.returns-clause-met
+returns-clause-met c =
+    let k = c.secrets.k in
+    c.secrets.invariant.met
+    ∙ at_drop_all (λ rest. first_unmet (each_from (secret_needs c.args.program.now) k rest)) c.args.secrets.now k
+    (omega (arith, c.secrets-test.false))
+
+pub returns-clause-memory : goal.returns-clause-memory
+returns-clause-memory c =
+    let ranges = map range_of c.secrets.ranges.items in
+    sym (c.secrets.invariant.hidden
+    ∙ at_drop_all (λ rest. fold (hide_in c.args.program.now) ranges rest) c.args.secrets.now c.secrets.k
+    (omega (arith, c.secrets-test.false)))

@@ -1,7 +1,8 @@
-use Rattle.std.proofs.Common.{◌≡◌, ◌∙◌, ◌+◌, ap, drop, map, sym}
+use Rattle.std.proofs.Common.{◌≡◌, ◌∙◌, ◌+◌, ap, arith, drop, map, sym}
+use Rattle.std.proofs.lemmas.List.{at_drop_all}
 use Rattle.std.specs.List.{fold}
 use Rattle.elf_runs.specs.Memory.{range_of, set_in, set_object, with_bytes}
-use Rattle.elf_runs.specs.Needs.{each_from, setting_needs}
+use Rattle.elf_runs.specs.Needs.{each_from, first_unmet, setting_needs}
 use Rattle.elf_runs.proofs.Meeting.{item_held, item_there, item_unmet, passed_on}
 use Rattle.elf_runs.proofs.settings.set_objects.Goals as goal
 
@@ -33,3 +34,17 @@ settings-preserved c =
           c.settings.invariant.set ∙ ap (fold (set_in program) ranges) next
           ∙ ap (λ old. fold (set_in program) old (drop (k + 1) settings)) (sym changed);
     }
+
+pub returns-clause-met : goal.returns-clause-met
+returns-clause-met c =
+    let k = c.settings.k in
+    c.settings.invariant.met
+    ∙ at_drop_all (λ rest. first_unmet (each_from (setting_needs c.args.program.now) k rest)) c.args.settings.now k
+    (omega (arith, c.settings-test.false))
+
+pub returns-clause-memory : goal.returns-clause-memory
+returns-clause-memory c =
+    let ranges = map range_of c.settings.ranges.items in
+    sym (c.settings.invariant.set
+    ∙ at_drop_all (λ rest. fold (set_in c.args.program.now) ranges rest) c.args.settings.now c.settings.k
+    (omega (arith, c.settings-test.false)))
