@@ -84,8 +84,9 @@ const LIBRARIES: CommandWord = CommandWord::Texts(
 /// The most steps that a run of a function may be allowed.
 pub(crate) const MOST_STEPS: u64 = (1 << 62) - 1;
 
-/// All commands but those on executables, in the order of the help.
-pub(crate) static COMMANDS: [CommandRow; 15] = [
+/// The commands that judge and compile a source, in the order of the help. Each group of commands is a table of its
+/// own, since what a table costs to prove grows with the square of its size.
+static COMPILING: [CommandRow; 3] = [
     CommandRow {
         name: "check",
         about: "Says whether a source is accepted, or names the first rule that it violates",
@@ -148,6 +149,10 @@ pub(crate) static COMMANDS: [CommandRow; 15] = [
             CommandWord::Flag("explain", EXPLAIN),
         ],
     },
+];
+
+/// The commands that measure and evaluate a source, which come next.
+static MEASURING: [CommandRow; 2] = [
     CommandRow {
         name: "stat",
         about: "Says what an accepted source or an image costs: the size of its code and of its frame, and how many \
@@ -180,6 +185,10 @@ pub(crate) static COMMANDS: [CommandRow; 15] = [
             CommandWord::Arguments(ARGUMENTS),
         ],
     },
+];
+
+/// The commands that run an image on values, which come next.
+static RUNNING: [CommandRow; 3] = [
     CommandRow {
         name: "run",
         about: "Runs an image on arguments and prints its outcome",
@@ -223,6 +232,10 @@ pub(crate) static COMMANDS: [CommandRow; 15] = [
             ),
         ],
     },
+];
+
+/// The commands that show an image whole, which come next.
+static SHOWING: [CommandRow; 3] = [
     CommandRow {
         name: "certify",
         about: "Runs an image once for all values of its secrets, and says that an observer sees the same for all, or \
@@ -268,6 +281,10 @@ pub(crate) static COMMANDS: [CommandRow; 15] = [
         about: "Lists the code of an image: each word with its address and its instruction",
         words: &[CommandWord::Path("IMAGE", "An image that `build` or `wrap` wrote")],
     },
+];
+
+/// The commands that take other files than sources and images, which come next.
+static COMPOSING: [CommandRow; 2] = [
     CommandRow {
         name: "wrap",
         about: "Makes an image from code that another compiler made, to run, list and certify it",
@@ -301,6 +318,10 @@ pub(crate) static COMMANDS: [CommandRow; 15] = [
              and `round N` for N times one turn of each",
         )],
     },
+];
+
+/// The commands that come last.
+static TRYING: [CommandRow; 2] = [
     CommandRow {
         name: "vectors",
         about: "Tries test vectors on a source: whether it gives the outcome of each, and whether an observer sees the \
@@ -329,6 +350,42 @@ pub(crate) static COMMANDS: [CommandRow; 15] = [
         )],
     },
 ];
+
+/// All commands but those on executables, in the order of the help.
+pub(crate) fn commands() -> [&'static [CommandRow]; 6] {
+    [
+        compiling(),
+        measuring(),
+        running(),
+        showing(),
+        composing(),
+        trying(),
+    ]
+}
+
+fn compiling() -> &'static [CommandRow] {
+    &COMPILING
+}
+
+fn measuring() -> &'static [CommandRow] {
+    &MEASURING
+}
+
+fn running() -> &'static [CommandRow] {
+    &RUNNING
+}
+
+fn showing() -> &'static [CommandRow] {
+    &SHOWING
+}
+
+fn composing() -> &'static [CommandRow] {
+    &COMPOSING
+}
+
+fn trying() -> &'static [CommandRow] {
+    &TRYING
+}
 
 /// What the commands on executables are together.
 pub(crate) const ELF_ABOUT: &str =
@@ -383,72 +440,91 @@ const SETTINGS: CommandWord = CommandWord::Texts(
      secret stays unknown; may be given several times",
 );
 
-/// The commands on executables, in the order of the help.
-pub(crate) static ELF_COMMANDS: [CommandRow; 3] = [
-    CommandRow {
-        name: "certify",
-        about: "Runs a function of a program once for all values of what is not known when it begins, and says that \
+/// The first command on executables.
+static ELF_CERTIFY: [CommandRow; 1] = [CommandRow {
+    name: "certify",
+    about: "Runs a function of a program once for all values of what is not known when it begins, and says that \
                 an observer sees the same for all, or from where on that is not shown, which is no proof of a leak",
-        words: &[
-            ELF,
-            FUNCTION,
-            FUNCTION_ARGUMENTS,
-            SECRETS,
-            SETTINGS,
-            STACK,
-            STEPS,
-            CommandWord::Profile,
-            CommandWord::Flag(
-                "shifts",
-                "Counts the amounts of shifts by a register as visible, for cores that shift bit by bit",
-            ),
-            CommandWord::Flag(
-                "explain",
-                "If runs may differ, names the unknown registers that the instruction there reads, and the load that \
+    words: &[
+        ELF,
+        FUNCTION,
+        FUNCTION_ARGUMENTS,
+        SECRETS,
+        SETTINGS,
+        STACK,
+        STEPS,
+        CommandWord::Profile,
+        CommandWord::Flag(
+            "shifts",
+            "Counts the amounts of shifts by a register as visible, for cores that shift bit by bit",
+        ),
+        CommandWord::Flag(
+            "explain",
+            "If runs may differ, names the unknown registers that the instruction there reads, and the load that \
                  each of them comes from",
-            ),
-            CommandWord::Flag("progress", PROGRESS_ANYWHERE),
-        ],
-    },
-    CommandRow {
-        name: "leak",
-        about: "Runs a function of a program and lists what an observer sees, and how the run stops; what is not set \
+        ),
+        CommandWord::Flag("progress", PROGRESS_ANYWHERE),
+    ],
+}];
+
+/// The second.
+static ELF_LEAK: [CommandRow; 1] = [CommandRow {
+    name: "leak",
+    about: "Runs a function of a program and lists what an observer sees, and how the run stops; what is not set \
                 is as the file has it, and what the file does not have is 0",
-        words: &[
-            ELF,
-            FUNCTION,
-            FUNCTION_ARGUMENTS,
-            CommandWord::Texts(
-                "set",
-                "NAME=hex:BYTES",
-                "Bytes that an object of the program begins with in place of the file's, two hexadecimal digits each, \
+    words: &[
+        ELF,
+        FUNCTION,
+        FUNCTION_ARGUMENTS,
+        CommandWord::Texts(
+            "set",
+            "NAME=hex:BYTES",
+            "Bytes that an object of the program begins with in place of the file's, two hexadecimal digits each, \
                  as those of a secret; may be given several times",
-            ),
-            STACK,
-            STEPS,
-            CommandWord::Profile,
-        ],
-    },
-    CommandRow {
-        name: "witness",
-        about: "Looks for two runs of a function of a program that differ in what is secret alone, and of which an \
+        ),
+        STACK,
+        STEPS,
+        CommandWord::Profile,
+    ],
+}];
+
+/// The third.
+static ELF_WITNESS: [CommandRow; 1] = [CommandRow {
+    name: "witness",
+    about: "Looks for two runs of a function of a program that differ in what is secret alone, and of which an \
                 observer sees different things; that none is found is no proof that there is none",
-        words: &[
-            ELF,
-            FUNCTION,
-            FUNCTION_ARGUMENTS,
-            SECRETS,
-            SETTINGS,
-            STACK,
-            STEPS,
-            CommandWord::Profile,
-            CommandWord::NumberUpTo(
-                "tries",
-                u32::MAX as u64,
-                "100",
-                "How many pairs of runs are made at most, each on other pseudo-random secrets; they are the same ones \
+    words: &[
+        ELF,
+        FUNCTION,
+        FUNCTION_ARGUMENTS,
+        SECRETS,
+        SETTINGS,
+        STACK,
+        STEPS,
+        CommandWord::Profile,
+        CommandWord::NumberUpTo(
+            "tries",
+            u32::MAX as u64,
+            "100",
+            "How many pairs of runs are made at most, each on other pseudo-random secrets; they are the same ones \
                  each time",
-            ),
-        ],
-    },
-];
+        ),
+    ],
+}];
+
+/// The commands on executables, in the order of the help.
+pub(crate) fn elf_commands() -> [&'static [CommandRow]; 3] {
+    [elf_certify(), elf_leak(), elf_witness()]
+}
+
+fn elf_certify() -> &'static [CommandRow] {
+    &ELF_CERTIFY
+}
+
+fn elf_leak() -> &'static [CommandRow] {
+    &ELF_LEAK
+}
+
+fn elf_witness() -> &'static [CommandRow] {
+    &ELF_WITNESS
+}

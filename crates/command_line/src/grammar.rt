@@ -1,6 +1,6 @@
 // The commands of `factc`, a row for each, and what `clap` makes of the rows.
 
-use crate::commands::{COMMANDS, CommandRow, CommandWord, ELF_ABOUT, ELF_COMMANDS};
+use crate::commands::{CommandRow, CommandWord, ELF_ABOUT, commands, elf_commands};
 use clap::builder::ValueParser;
 use clap::{Arg, ArgAction, Command, value_parser};
 use explanations::codes;
@@ -15,8 +15,8 @@ pub fn factc<'a>(alloc: Global) -> Result<Command<'a>, AllocError> {
              what it compiled, and shows what an observer sees of the run: addresses, and operands of divisions",
         )
         .subcommand_required(true);
-    for row in &COMMANDS {
-        factc = factc.subcommand(command(alloc, row)?)?;
+    for rows in &commands() {
+        factc = with_rows(alloc, factc, rows)?;
     }
     factc.subcommand(elf(alloc)?)
 }
@@ -26,10 +26,22 @@ fn elf<'a>(alloc: Global) -> Result<Command<'a>, AllocError> {
     let mut elf = Command::new(alloc, "elf")
         .about(ELF_ABOUT)
         .subcommand_required(true);
-    for row in &ELF_COMMANDS {
-        elf = elf.subcommand(command(alloc, row)?)?;
+    for rows in &elf_commands() {
+        elf = with_rows(alloc, elf, rows)?;
     }
     Ok(elf)
+}
+
+/// A command that has those of these rows as well.
+fn with_rows<'a>(
+    alloc: Global,
+    mut whole: Command<'a>,
+    rows: &[CommandRow],
+) -> Result<Command<'a>, AllocError> {
+    for row in rows {
+        whole = whole.subcommand(command(alloc, row)?)?;
+    }
+    Ok(whole)
 }
 
 /// The command of a row.
