@@ -8,28 +8,34 @@ use std::alloc::{AllocError, Global};
 
 /// The commands of `factc` and their words, as `clap` reads them.
 pub fn factc<'a>(alloc: Global) -> Result<Command<'a>, AllocError> {
-    let mut factc = Command::new(alloc, "factc")
+    let factc = Command::new(alloc, "factc")
         .version("1.0.0")
         .about(
             "Compiles a core of FaCT, a language for code that shows an observer no secrets, to RISC-V (RV32IM), runs \
              what it compiled, and shows what an observer sees of the run: addresses, and operands of divisions",
         )
         .subcommand_required(true);
-    for rows in &commands() {
-        factc = with_rows(alloc, factc, rows)?;
-    }
-    factc.subcommand(elf(alloc)?)
+    with_groups(alloc, factc, &commands())?.subcommand(elf(alloc)?)
 }
 
 /// The commands on executables.
 fn elf<'a>(alloc: Global) -> Result<Command<'a>, AllocError> {
-    let mut elf = Command::new(alloc, "elf")
+    let elf = Command::new(alloc, "elf")
         .about(ELF_ABOUT)
         .subcommand_required(true);
-    for rows in &elf_commands() {
-        elf = with_rows(alloc, elf, rows)?;
+    with_groups(alloc, elf, &elf_commands())
+}
+
+/// A command that has those of these tables as well.
+fn with_groups<'a>(
+    alloc: Global,
+    mut whole: Command<'a>,
+    groups: &[&[CommandRow]],
+) -> Result<Command<'a>, AllocError> {
+    for rows in groups {
+        whole = with_rows(alloc, whole, rows)?;
     }
-    Ok(elf)
+    Ok(whole)
 }
 
 /// A command that has those of these rows as well.
@@ -81,12 +87,17 @@ fn path<'a>(alloc: Global, name: &'static str, help: &'static str) -> Arg<'a> {
         .help(help)
 }
 
-/// A number that is to be given after its name.
-fn number<'a>(alloc: Global, name: &'static str, help: &'static str) -> Arg<'a> {
+/// A value that is given after its name, and what it is called in the help.
+fn named<'a>(alloc: Global, name: &'static str, value: &'static str) -> Arg<'a> {
     Arg::new(alloc, name)
         .long(name)
-        .value_name("N")
+        .value_name(value)
         .action(ArgAction::Set)
+}
+
+/// A number that is to be given after its name.
+fn number<'a>(alloc: Global, name: &'static str, help: &'static str) -> Arg<'a> {
+    named(alloc, name, "N")
         .required(true)
         .value_parser(value_parser!(u64))
         .help(help)
@@ -99,21 +110,14 @@ fn number_up_to<'a>(
     most: u64,
     default: &'static str,
 ) -> Arg<'a> {
-    Arg::new(alloc, name)
-        .long(name)
-        .value_name("N")
-        .action(ArgAction::Set)
+    named(alloc, name, "N")
         .value_parser(ValueParser::unsigned(0, most))
         .default_value(default)
 }
 
 /// A text that may be given after its name.
 fn text<'a>(alloc: Global, name: &'static str, value: &'static str, help: &'static str) -> Arg<'a> {
-    Arg::new(alloc, name)
-        .long(name)
-        .value_name(value)
-        .action(ArgAction::Set)
-        .help(help)
+    named(alloc, name, value).help(help)
 }
 
 /// A text that may be given after its name, several times.
@@ -123,11 +127,7 @@ fn texts<'a>(
     value: &'static str,
     help: &'static str,
 ) -> Arg<'a> {
-    Arg::new(alloc, name)
-        .long(name)
-        .value_name(value)
-        .action(ArgAction::Append)
-        .help(help)
+    text(alloc, name, value, help).action(ArgAction::Append)
 }
 
 /// The numbers of the profiles.
@@ -135,10 +135,7 @@ static PROFILES: [&str; 2] = ["1", "2"];
 
 /// For which observer a source is judged or compiled.
 fn profile<'a>(alloc: Global) -> Arg<'a> {
-    Arg::new(alloc, "profile")
-        .long("profile")
-        .value_name("N")
-        .action(ArgAction::Set)
+    named(alloc, "profile", "N")
         .value_parser(PROFILES.as_slice())
         .default_value("1")
         .help(
@@ -152,10 +149,7 @@ static FORMATS: [&str; 2] = ["text", "json"];
 
 /// How the answer is printed.
 fn format<'a>(alloc: Global, help: &'static str) -> Arg<'a> {
-    Arg::new(alloc, "format")
-        .long("format")
-        .value_name("FORMAT")
-        .action(ArgAction::Set)
+    named(alloc, "format", "FORMAT")
         .value_parser(FORMATS.as_slice())
         .default_value("text")
         .help(help)
@@ -191,12 +185,9 @@ fn flag<'a>(alloc: Global, name: &'static str, help: &'static str) -> Arg<'a> {
 
 /// Every word after a path, also one that begins with a hyphen.
 fn arguments<'a>(alloc: Global, help: &'static str) -> Arg<'a> {
-    Arg::new(alloc, "ARG")
-        .action(ArgAction::Append)
-        .num_args(0..)
+    operands(alloc, help)
         .allow_hyphen_values(true)
         .trailing_var_arg(true)
-        .help(help)
 }
 
 /// Every further word that is no option.
