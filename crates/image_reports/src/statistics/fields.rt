@@ -2,8 +2,8 @@
 
 ghost use Rattle.std.specs.Prelude.{◌≡◌, ◌++◌, OnOk};
 ghost use Rattle.std.specs.String.{string_bytes};
-ghost use Rattle.image_reports.specs.statistics.FieldsText.{profile_number, sizes_text, slot_lines, returned_line};
-ghost use Rattle.image_reports.specs.statistics.FieldsText.{fields_text};
+ghost use Rattle.image_reports.specs.statistics.FieldsText.{fields_text, profile_number, returned_line, sizes_text};
+ghost use Rattle.image_reports.specs.statistics.FieldsText.{slot_line, slot_lines};
 
 use crate::statistics::types::{ParamType, kind_text, label_text};
 use codegen::image_fields::{ImageFields, ResultSlot, Slot};
@@ -61,10 +61,18 @@ fn push_slots(text: &mut String, slots: &[Slot]) -> Result<(), AllocError>
     ensures { OnOk result (string_bytes text.new ≡ string_bytes text.old ++ slot_lines 0 slots.now) }
 {
     for (number, slot) in slots.iter().enumerate() {
-        let at = slot.offset;
-        let param = ParamType(slot.param);
-        writeln!(text, "parameter {number} at {at}: {param}")?;
+        push_slot(text, number, slot)?;
     }
+    Ok(())
+}
+
+/// Puts the line of a parameter, which has this number, at the end.
+fn push_slot(text: &mut String, number: usize, slot: &Slot) -> Result<(), AllocError>
+    ensures { OnOk result (string_bytes text.new ≡ string_bytes text.old ++ slot_line number slot.now) }
+{
+    let at = slot.offset;
+    let param = ParamType(slot.param);
+    writeln!(text, "parameter {number} at {at}: {param}")?;
     Ok(())
 }
 

@@ -5,5 +5,5 @@ use Rattle.image_reports.specs.statistics.FieldsText.{slot_lines}
 use Rattle.image_reports.proofs.statistics.fields.push_slots.Given as goal
 
 abbrev pub invariant-loop-number : goal.invariant-loop-number
-invariant-loop-number l = string_bytes l.text ++ slot_lines l.number-counter (drop l.number-counter l.slots)
+invariant-loop-number l = string_bytes l.text ++ slot_lines l.number (drop l.number l.slots)
     ≡ string_bytes l.fn.text ++ slot_lines 0 l.slots
