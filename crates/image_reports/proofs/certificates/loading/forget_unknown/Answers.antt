@@ -1,5 +1,6 @@
 use Rattle.std.proofs.Common.{◌≡◌, ℕ, ◌+◌, ◌<◌, length, drop, slice_index_or, Option, is_some, ap, sym}
 use Rattle.std.proofs.Common.{◌∙◌, arith}
+use Rattle.std.proofs.lemmas.List.{at_drop_all}
 use Rattle.image_reports.specs.Below.{Arg, ByteMap}
 use Rattle.image_reports.proofs.certificates_lemmas.Below.{no_slot}
 use Rattle.image_reports.specs.certificates.KnownImage.{marks_with_one, marks_with_given, with_unknown}
@@ -54,3 +55,11 @@ loop-index-preserved g c =
       registers = registers ∙ c.loop-index.invariant.registers;
       shifts = shifts ∙ c.loop-index.invariant.shifts;
     }
+
+pub returns-clause-bytes : goal.returns-clause-bytes
+returns-clause-bytes g c =
+    let l = c.loop-index in
+    let left = drop l.index c.args.given.now in
+    sym (at_drop_all (λ slots. marks_with_given c.args.frame (g.M.Memory.bytes l.known.marks) slots left)
+    c.args.slots.now l.index c.loop-index-test.false)
+    ∙ l.invariant.rest

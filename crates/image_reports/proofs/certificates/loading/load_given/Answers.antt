@@ -1,10 +1,11 @@
-use Rattle.std.proofs.Common.{◌≡◌, ℕ, List, All, is_some, ap, sym, subst, ◌∙◌, arith}
+use Rattle.std.proofs.Common.{◌≡◌, List, All, is_some, ap, length, sym, subst, ◌∙◌, arith}
 use Rattle.std.proofs.lemmas.List.Elements.{All-from_recursion}
 use Rattle.image_reports.specs.Below.{ByteMap, code_base, Fields, frame_base, HoldsSlot, initial_registers, IsImage}
 use Rattle.image_reports.specs.Below.{paged_bytes, pc_of, register_masks, regs_of, Slot, zeros}
 use Rattle.image_reports.proofs.certificates_lemmas.Below.{slots_hold}
+use Rattle.image_reports.specs.certificates.Given.{fault_of_given}
 use Rattle.image_reports.specs.certificates.KnownImage.{marks_with_given, with_given}
-use Rattle.image_reports.proofs.certificates_lemmas.LoadedLemmas.{same_known}
+use Rattle.image_reports.proofs.certificates_lemmas.LoadedLemmas.{as_many, params_in, same_known}
 use Rattle.image_reports.proofs.certificates.loading.load_given.Goals as goal
 
 -- each slot lies in a new frame
@@ -16,10 +17,18 @@ held image allowed bytes slots fresh are =
     (All-from_recursion (HoldsSlot frame_base (zeros frame_base image.frame_bytes)) image.slots
     (slots_hold frame_base image.frame_bytes image.slots allowed.slots_inside (omega (arith, allowed.frame_size)))))
 
+pub put_given-requires-clause-faultless : goal.put_given-requires-clause-faultless
+put_given-requires-clause-faultless c =
+    ap (λ (slots : List Slot). fault_of_given (params_in slots) c.args.given.now) c.slots.ensures.slots ∙ c.requires
+
 pub put_given-requires-clause-data : goal.put_given-requires-clause-data
 put_given-requires-clause-data c =
     held c.args.image.now c.slots.ensures.allowed (paged_bytes c.in_ok-memory.memory) c.slots.result.now
     c.in_ok-memory.ensures c.slots.ensures.slots
+
+pub forget_unknown-requires-clause-count : goal.forget_unknown-requires-clause-count
+forget_unknown-requires-clause-count c =
+    as_many c.args.image.now.slots c.args.given.now c.requires ∙ sym (ap length c.slots-2.ensures.slots)
 
 pub forget_unknown-requires-clause-data : goal.forget_unknown-requires-clause-data
 forget_unknown-requires-clause-data c =

@@ -1,12 +1,19 @@
 use Rattle.std.proofs.Common.{◌≡◌, ◌+◌, ◌<◌, length, drop, slice_index_or, Option, Some, is_some, ap, sym, ◌∙◌, arith}
 use Rattle.image_reports.proofs.certificates_lemmas.Below.{fault_from-next, HoldsSlot-same, no_slot}
 use Rattle.image_reports.specs.Below.{Arg, ByteMap, HasShape, Slot}
-use Rattle.std.proofs.lemmas.List.{length-map}
+use Rattle.std.proofs.lemmas.List.{at_drop_all, length-map}
 use Rattle.image_reports.specs.certificates.Given.{rule_of_given}
 use Rattle.image_reports.specs.certificates.KnownImage.{with_one, with_given}
 use Rattle.image_reports.proofs.certificates_lemmas.LoadedLemmas.{with_given-next, is_some-with_one, params_in, shape_given, as_many}
 use Rattle.image_reports.proofs.certificates.loading.put_given.Goals as goal
 use Rattle.image_reports.proofs.certificates.loading.put_given.Goals.{in-Some, in_default}
+
+pub put_argument-requires-clause-data : goal.put_argument-requires-clause-data
+put_argument-requires-clause-data g c =
+    let i = c.loop-index.index in
+    HoldsSlot-same c.args.frame (g.M.Memory.bytes c.args.memory.now) (g.M.Memory.bytes c.loop-index.memory)
+    (slice_index_or c.args.slots.now i no_slot) c.loop-index.invariant.data_there
+    (c.requires.data i no_slot c.loop-index-test.true)
 
 pub put_argument-requires-clause-shape : goal.put_argument-requires-clause-shape
 put_argument-requires-clause-shape g c =
@@ -52,3 +59,11 @@ loop-index-preserved g c =
           (omega (arith, c.loop-index-test.true, length-map slots (λ (s : Slot). s.param))) below
           c.loop-index.invariant.faultless;
     }
+
+pub returns-clause-put : goal.returns-clause-put
+returns-clause-put g c =
+    let l = c.loop-index in
+    let left = drop l.index c.args.given.now in
+    sym (at_drop_all (λ slots. with_given c.args.frame (g.M.Memory.bytes l.memory) slots left) c.args.slots.now l.index
+    c.loop-index-test.false)
+    ∙ l.invariant.rest
