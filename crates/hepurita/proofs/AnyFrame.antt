@@ -34,13 +34,13 @@ use Rattle.hepurita.specs.Begun.{FollowsAnywhere, IsBegun, IsFollowedFrom}
 use Rattle.hepurita.proofs.FrameValues.{frame_values, given_first, laid_any}
 use Rattle.hepurita.proofs.PutArguments.{with_arguments_agree}
 use Rattle.codegen.proofs.Numbers.{zero_byte}
-use Rattle.optimisation.specs.set_first.Order.{program_sets_first}
-use Rattle.optimisation.specs.set_first.Starts.{AgreeOnParameters, outcome_from, path_from, started}
-use Rattle.optimisation.proofs.set_first_lemmas.Alike.{only_parameters}
+use Rattle.variable_room.specs.set_first.Order.{program_sets_first}
+use Rattle.variable_room.specs.set_first.Starts.{AgreeOnParameters, outcome_from, path_from, started}
+use Rattle.variable_room.proofs.set_first_lemmas.Alike.{only_parameters}
 use Rattle.codegen.proofs.Machine.{control_offset}
 use Rattle.codegen.proofs.Language.{Param}
-use Rattle.optimisation.proofs.set_whole_lemmas.Arguments.{do_not_matter}
-use Rattle.optimisation.specs.set_whole.Whole.{set_whole_of}
+use Rattle.variable_room.proofs.set_whole_lemmas.Arguments.{do_not_matter}
+use Rattle.variable_room.specs.set_whole.Whole.{set_whole_of}
 
 -- the state that the value is taken in
 abbrev last_state : StraightProgram → StraightState → StraightState

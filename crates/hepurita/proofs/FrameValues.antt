@@ -26,7 +26,7 @@ use Rattle.codegen.specs.private.Homes.{is_no_array, is_word}
 use Rattle.codegen.proofs.Numbers.{zero_number}
 use Rattle.hepurita.specs.Blank.{IsZeroWord, words_from, has_few_values, blank_from}
 use Rattle.hepurita.proofs.PutArguments.{arguments_beside, arguments_data, given_there}
-use Rattle.optimisation.specs.set_first.Starts.{started}
+use Rattle.variable_room.specs.set_first.Starts.{started}
 
 -- a stretch of bytes
 abbrev pub AreFrameBytes : ℕ → ℕ → ByteMap → Type 0

@@ -4,7 +4,7 @@ use Rattle.std.proofs.Common.{◌≡◌, Option, None, Some, IfSome, ap, option_
 use Rattle.std.specs.Prelude.{unwrap_or}
 use Rattle.hepurita.specs.Below.{IsRemoved, RangedProgram, StraightProgram}
 use Rattle.hepurita.specs.Exact.{after, fitted_where_shared, fitted_with_words}
-use Rattle.optimisation.specs.live_words.Exact.{shared_of}
+use Rattle.straight_words.specs.live_words.Exact.{shared_of}
 use Rattle.branch_removal.specs.Replaced.{IsReplaced}
 
 pub stands_on : (ranged : RangedProgram) (made : Option StraightProgram) (given result : StraightProgram)

@@ -151,5 +151,5 @@ pub use Rattle.syntax.specs.declared.token.TokenKind.{TokenKind}
 pub use Rattle.syntax.specs.declared.token.TokenKind.TheVariants.{Keyword, Name, Number, Sign}
 pub use Rattle.source_eval.specs.Answer.{answer, found_params, judged_answer, run_answer}
 unfoldable pub use Rattle.optimisation.specs.constants.Exact.{simplified_of, unrolled_of}
-pub use Rattle.optimisation.specs.set_whole.Whole.{AgreeBut, set_whole_of}
+pub use Rattle.variable_room.specs.set_whole.Whole.{AgreeBut, set_whole_of}
 pub use Rattle.image.specs.Reading.{AreBytes, Spells}

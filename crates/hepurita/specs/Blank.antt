@@ -8,7 +8,7 @@ use Rattle.inline.specs.FlatSize.{words_of}
 use Rattle.inline.specs.declared.flat.FlatVariable.{FlatVariable}
 use Rattle.language.specs.declared.signature.Kind.{Kind}
 use Rattle.language.specs.declared.signature.Kind.TheVariants.{Boolean, Uint16, Uint32, Uint8}
-use Rattle.optimisation.specs.set_first.Order.{program_sets_first}
+use Rattle.variable_room.specs.set_first.Order.{program_sets_first}
 
 -- the offsets, or none where all words have to be
 abbrev pub Blank : Type 0

@@ -5,14 +5,14 @@ use Rattle.std.specs.Option.{option_map}
 use Rattle.hepurita.specs.Below.{Fields, fields_of, flattened, optimised_fields_of, ProcedureTree, Profile, ranged}
 use Rattle.hepurita.specs.Below.{simplified_of, straight_of, StraightProgram, unrolled_of}
 use Rattle.hepurita.specs.Needs.{Needs, optimised_needs, plain_needs}
-use Rattle.optimisation.specs.element_words.Exact.{split_of}
+use Rattle.straight_words.specs.element_words.Exact.{split_of}
 use Rattle.hepurita.specs.declared.optimised.Optimisation.{Optimisation}
 use Rattle.hepurita.specs.declared.optimised.Optimisation.TheVariants.{Off, On, Small}
 use Rattle.optimisation.specs.high_products.Exact.{with_high_products}
 use Rattle.optimisation.specs.iteration_groups.Exact.{grouped_of}
-use Rattle.optimisation.specs.live_words.Exact.{shared_of}
-use Rattle.optimisation.specs.needed_variables.Exact.{fitted_of}
-use Rattle.optimisation.specs.number_words.Exact.{numbers_as_words}
+use Rattle.straight_words.specs.live_words.Exact.{shared_of}
+use Rattle.variable_room.specs.needed_variables.Exact.{fitted_of}
+use Rattle.variable_room.specs.number_words.Exact.{numbers_as_words}
 
 -- the first image of those that are there, and else another
 abbrev pub first_of : List (Option Fields) → Fields → Fields

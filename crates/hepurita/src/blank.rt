@@ -9,8 +9,8 @@ ghost use Rattle.inline.specs.FlatSize.{declared_words, words_of};
 use branch_removal::StraightCode;
 use inline::FlatVariable;
 use language::Kind;
-use optimisation::set_first::program_sets_first;
 use std::alloc::{AllocError, Global};
+use variable_room::set_first::program_sets_first;
 
 /// The bytes of a word.
 const WORD: u32 = 4;

@@ -10,8 +10,8 @@ use crate::blank::{blank_words, straight_code_is_kept};
 use branch_removal::StraightCode;
 use codegen::optimised_variables;
 use inline::FlatVariable;
-use optimisation::set_whole::arrays_set_whole;
 use std::alloc::{AllocError, Global};
+use variable_room::set_whole::arrays_set_whole;
 
 /// What the frame has to be where code begins: some words are zeros, and the arguments stand in their slots, but for
 /// arrays that the code sets whole before it reads them.

@@ -7,7 +7,7 @@ ghost use Rattle.hepurita.specs.Needs.{needs_as, optimised_needs};
 ghost use Rattle.hepurita.specs.CodeFor.{IsCodeFor};
 ghost use Rattle.hepurita.specs.Exact.{after, fast_of, finished_in_groups, finished_of};
 ghost use Rattle.hepurita.specs.Exact.{fitted_where_shared, fitted_with_words, small_of};
-ghost use Rattle.optimisation.specs.needed_variables.Exact.{fitted_of};
+ghost use Rattle.variable_room.specs.needed_variables.Exact.{fitted_of};
 
 use crate::generated::Generated;
 use crate::needs::optimised_needs;
@@ -15,13 +15,13 @@ use branch_removal::{StraightCode, replaced_is_removed};
 use codegen::generate_optimised;
 use language::Refusal;
 use optimisation::constants::{simplify, unroll};
-use optimisation::element_words::ElementWords;
 use optimisation::high_products::high_products;
 use optimisation::iteration_groups::IterationGroups;
-use optimisation::live_words::share_words;
-use optimisation::needed_variables::{needed_variables, with_needed};
-use optimisation::number_words::NumberWords;
 use std::alloc::Global;
+use straight_words::element_words::ElementWords;
+use straight_words::live_words::share_words;
+use variable_room::needed_variables::{needed_variables, with_needed};
+use variable_room::number_words::NumberWords;
 
 /// What a pass made, or else the code that it was given.
 fn made_or_given<'a, 'f>(

@@ -1,10 +1,3 @@
-pub mod over_lemmas
 pub mod constants_lemmas
-pub mod element_words_lemmas
 pub mod high_products_lemmas
 pub mod iteration_groups_lemmas
-pub mod live_words_lemmas
-pub mod needed_variables_lemmas
-pub mod number_words_lemmas
-pub mod set_first_lemmas
-pub mod set_whole_lemmas

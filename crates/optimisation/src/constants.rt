@@ -21,4 +21,6 @@ mod simplification;
 mod statements;
 pub(crate) mod terms;
 
+pub use operators::folded;
 pub use simplification::{simplify, unroll};
+pub use terms::CounterRange;

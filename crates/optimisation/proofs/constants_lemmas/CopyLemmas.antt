@@ -4,7 +4,7 @@ use Rattle.std.proofs.Common.{⊎_elim, refl, ap, subst}
 use Rattle.std.proofs.lemmas.Bool.{and_parts, eqb-false, not-true}
 use Rattle.std.proofs.lemmas.Option.{none-some, same_Some}
 use Rattle.optimisation.specs.Below.{FlatVariable, TermTree, value_in, Values, variable}
-use Rattle.optimisation.specs.private.SameWords.{are_alike}
+use Rattle.straight_words.specs.private.SameWords.{are_alike}
 use Rattle.optimisation.specs.declared.constants.known.Constant.{Constant}
 use Rattle.optimisation.specs.declared.constants.known.WordCopy.{WordCopy}
 use Rattle.optimisation.specs.constants.private.Folding.{constant_of}

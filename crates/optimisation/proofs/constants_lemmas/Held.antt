@@ -12,7 +12,7 @@ use Rattle.optimisation.specs.Below.{with_variable, word_as, WordType}
 use Rattle.inline.proofs.Face.{iterations_keep}
 use Rattle.inline.proofs.Fitting.{value_fits, suited_fits, some_bit}
 use Rattle.inline.proofs.FittingBodies.{fits_assigned, one_held}
-use Rattle.optimisation.proofs.over_lemmas.Variables.{but_within}
+use Rattle.straight_words.proofs.over_lemmas.Variables.{but_within}
 
 -- first values of an array
 all_held : (types : Types) (m : Values) → Fits types m → (word : WordType) (es : List TermTree)

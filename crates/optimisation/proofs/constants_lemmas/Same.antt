@@ -23,8 +23,8 @@ use Rattle.optimisation.proofs.constants_lemmas.Learned.{iteration_start}
 use Rattle.optimisation.proofs.constants_lemmas.StatementRules.{branch_by, loop_by}
 use Rattle.optimisation.proofs.constants_lemmas.TermLemmas.{same_value, still_alike, suited_alike, all_alike}
 use Rattle.optimisation.proofs.constants_lemmas.Unset.{behind_part, within_loop}
-use Rattle.optimisation.proofs.over_lemmas.Values.{IsNoWorse, same_path, both, through, alone, at_index}
-use Rattle.optimisation.proofs.over_lemmas.Beside.{branch_path, loop_path}
+use Rattle.straight_words.proofs.over_lemmas.Values.{IsNoWorse, same_path, both, through, alone, at_index}
+use Rattle.straight_words.proofs.over_lemmas.Beside.{branch_path, loop_path}
 
 module _ (most : List ℕ) where
   -- two loops whose iterations do the same, of numbers below a limit

@@ -13,9 +13,9 @@ use Rattle.optimisation.proofs.constants_lemmas.KnownLemmas.{FactsHold, IsReadAs
 use Rattle.optimisation.proofs.constants_lemmas.KnownLemmas.{valued}
 use Rattle.optimisation.proofs.constants_lemmas.TermRules.{MayStand, behind, prefixed_becomes, rotated_becomes}
 use Rattle.optimisation.proofs.constants_lemmas.TermRules.{converted_becomes, operated_becomes, chosen_becomes}
-use Rattle.optimisation.proofs.over_lemmas.Values.{same_path, IsAlike, AreAllAlike, IsResultAlike, prefix_alike}
-use Rattle.optimisation.proofs.over_lemmas.Values.{binary_alike, rotate_alike, convert_alike, select_alike}
-use Rattle.optimisation.proofs.over_lemmas.Values.{element_alike, all_values_alike}
+use Rattle.straight_words.proofs.over_lemmas.Values.{same_path, IsAlike, AreAllAlike, IsResultAlike, prefix_alike}
+use Rattle.straight_words.proofs.over_lemmas.Values.{binary_alike, rotate_alike, convert_alike, select_alike}
+use Rattle.straight_words.proofs.over_lemmas.Values.{element_alike, all_values_alike}
 
 module _ (most : List ℕ) (types : Types) (words : WordFacts) (m : Values) (holds : FactsHold types words m) where
   -- a copy has its source's value

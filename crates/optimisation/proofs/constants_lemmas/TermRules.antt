@@ -35,7 +35,7 @@ use Rattle.optimisation.proofs.constants_lemmas.Identities.{left_leaves, right_l
 use Rattle.optimisation.proofs.constants_lemmas.OneOperand.{left_value, right_value}
 use Rattle.optimisation.proofs.constants_lemmas.Powers.{IsPower, is_power, quotient_below}
 use Rattle.optimisation.proofs.constants_lemmas.TwoShifts.{IsField, is_field, lifted_by, moved_value}
-use Rattle.optimisation.proofs.over_lemmas.Values.{IsNoWorse, same_path, through, alone, IsAlike}
+use Rattle.straight_words.proofs.over_lemmas.Values.{IsNoWorse, same_path, through, alone, IsAlike}
 
 -- What there may be.
 

@@ -11,8 +11,8 @@ use Rattle.optimisation.proofs.constants_lemmas.KnownLemmas.{nothing_first, Fact
 use Rattle.optimisation.proofs.constants_lemmas.Held.{fits_after_all}
 use Rattle.optimisation.proofs.constants_lemmas.TermLemmas.{result_alike}
 use Rattle.optimisation.proofs.constants_lemmas.Same.{LeadsTo, all_lead}
-use Rattle.optimisation.proofs.over_lemmas.Values.{IsNoWorse, both, IsResultAlike}
-use Rattle.optimisation.proofs.over_lemmas.Whole.{is_replaced}
+use Rattle.straight_words.proofs.over_lemmas.Values.{IsNoWorse, both, IsResultAlike}
+use Rattle.straight_words.proofs.over_lemmas.Whole.{is_replaced}
 
 module _ (unroll_limits : List ℕ) (p : StraightProgram) where
   abbrev last_words : WordFacts

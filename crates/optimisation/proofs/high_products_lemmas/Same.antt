@@ -13,15 +13,15 @@ use Rattle.inline.proofs.Fitting.{value_fits}
 use Rattle.optimisation.specs.declared.high_products.shapes.Factors.{Factors}
 use Rattle.optimisation.specs.high_products.private.Replacing.{product_of, replaced, replaced_all, replaced_in}
 use Rattle.optimisation.specs.high_products.private.Shapes.{upper_word}
-use Rattle.optimisation.specs.private.Rewriting.{instead_or}
+use Rattle.straight_words.specs.private.Rewriting.{instead_or}
 use Rattle.optimisation.proofs.constants_lemmas.Held.{counted_fits, counter_limit, fewer_fit, fits_after}
 use Rattle.optimisation.proofs.constants_lemmas.Held.{fits_after_all}
 use Rattle.optimisation.proofs.constants_lemmas.Same.{iterations_alike}
 use Rattle.optimisation.proofs.high_products_lemmas.ShapeValues.{same_value}
-use Rattle.optimisation.proofs.over_lemmas.Beside.{branch_path, loop_path}
-use Rattle.optimisation.proofs.over_lemmas.Values.{all_values_alike, AreAllAlike, at_index, binary_alike, both}
-use Rattle.optimisation.proofs.over_lemmas.Values.{convert_alike, element_alike, IsAlike, IsNoWorse, IsResultAlike}
-use Rattle.optimisation.proofs.over_lemmas.Values.{prefix_alike, rotate_alike, same_path, select_alike}
+use Rattle.straight_words.proofs.over_lemmas.Beside.{branch_path, loop_path}
+use Rattle.straight_words.proofs.over_lemmas.Values.{all_values_alike, AreAllAlike, at_index, binary_alike, both}
+use Rattle.straight_words.proofs.over_lemmas.Values.{convert_alike, element_alike, IsAlike, IsNoWorse, IsResultAlike}
+use Rattle.straight_words.proofs.over_lemmas.Values.{prefix_alike, rotate_alike, same_path, select_alike}
 
 module _ (most : List ℕ) where
   -- Expressions.

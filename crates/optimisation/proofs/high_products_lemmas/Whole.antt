@@ -7,8 +7,8 @@ use Rattle.optimisation.specs.Below.{types_of, Values}
 use Rattle.optimisation.specs.high_products.private.Replacing.{replaced_all, replaced_program}
 use Rattle.optimisation.proofs.constants_lemmas.Held.{fits_after_all}
 use Rattle.optimisation.proofs.high_products_lemmas.Same.{all_same, AllDoTheSame, result_stands}
-use Rattle.optimisation.proofs.over_lemmas.Values.{both, IsNoWorse, IsResultAlike}
-use Rattle.optimisation.proofs.over_lemmas.Whole.{is_replaced}
+use Rattle.straight_words.proofs.over_lemmas.Values.{both, IsNoWorse, IsResultAlike}
+use Rattle.straight_words.proofs.over_lemmas.Whole.{is_replaced}
 
 module _ (p : StraightProgram) (typed : IsTypedStraight p) (args : List Arg) (within : AreWithin p.parameters args)
   where

@@ -10,13 +10,13 @@ use Rattle.optimisation.specs.Below.{after_all, chain, counted, first, iteration
 use Rattle.optimisation.specs.Below.{path_along, path_of_iterations, repeats, StraightBlock, StraightState}
 use Rattle.optimisation.specs.Below.{value_at, Values, with_variable}
 use Rattle.optimisation.specs.declared.constants.terms.CounterRange.{CounterRange}
-use Rattle.optimisation.specs.element_words.private.Splitting.{single}
+use Rattle.straight_words.specs.element_words.private.Splitting.{single}
 use Rattle.optimisation.specs.iteration_groups.private.Grouping.{copies, first_of_group, group, group_code}
 use Rattle.optimisation.specs.iteration_groups.private.Grouping.{grouped_loop, groups_in, left_in, number_set, shift_to}
 use Rattle.optimisation.proofs.iteration_groups_lemmas.Iterations.{AreParts, in_parts}
 use Rattle.optimisation.proofs.iteration_groups_lemmas.Values.{AreAlike}
-use Rattle.optimisation.proofs.over_lemmas.Beside.{AreBeside, FollowsAt, RunsBeside}
-use Rattle.optimisation.proofs.over_lemmas.Values.{alone, both, IsNoWorse, same_path}
+use Rattle.straight_words.proofs.over_lemmas.Beside.{AreBeside, FollowsAt, RunsBeside}
+use Rattle.straight_words.proofs.over_lemmas.Values.{alone, both, IsNoWorse, same_path}
 
 -- so many variables but for one hold the same
 abbrev pub AreNear : ℕ → ℕ → Values → Values → Type 0

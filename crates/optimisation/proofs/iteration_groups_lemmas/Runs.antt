@@ -11,7 +11,7 @@ use Rattle.optimisation.specs.Below.{StraightTree, take, TermTree, types_but, ty
 use Rattle.optimisation.specs.Below.{with_variable, word_as}
 use Rattle.optimisation.specs.declared.constants.terms.CounterRange.{CounterRange}
 use Rattle.optimisation.specs.declared.iteration_groups.terms.Shift.{Shift}
-use Rattle.optimisation.specs.element_words.private.Splitting.{single}
+use Rattle.straight_words.specs.element_words.private.Splitting.{single}
 use Rattle.optimisation.specs.iteration_groups.private.Choice.{are_plain, grouped_range, is_plain}
 use Rattle.optimisation.specs.iteration_groups.private.Grouping.{grouped, grouped_all, grouped_loop, loop_by, shift_to}
 use Rattle.optimisation.specs.iteration_groups.private.Grouping.{shifted}
@@ -19,10 +19,10 @@ use Rattle.optimisation.proofs.iteration_groups_lemmas.Chosen.{is_grouped, is_nu
 use Rattle.optimisation.proofs.iteration_groups_lemmas.Groups as groups
 use Rattle.optimisation.proofs.iteration_groups_lemmas.Values.{AreAlike, array_apart, Holds, IsApart, IsPlaced, stands}
 use Rattle.optimisation.proofs.iteration_groups_lemmas.Values.{all_stand}
-use Rattle.optimisation.proofs.over_lemmas.Variables.{but_within}
-use Rattle.optimisation.proofs.over_lemmas.Values.{same_path, both, alone, at_index}
-use Rattle.optimisation.proofs.over_lemmas.Beside.{AreBeside, within_beside, taken_beside, RunsBeside, FollowsAt}
-use Rattle.optimisation.proofs.over_lemmas.Beside.{branch_follows, loop_follows, then_follows}
+use Rattle.straight_words.proofs.over_lemmas.Variables.{but_within}
+use Rattle.straight_words.proofs.over_lemmas.Values.{same_path, both, alone, at_index}
+use Rattle.straight_words.proofs.over_lemmas.Beside.{AreBeside, within_beside, taken_beside, RunsBeside, FollowsAt}
+use Rattle.straight_words.proofs.over_lemmas.Beside.{branch_follows, loop_follows, then_follows}
 
 -- in a group statements have no loop, and do not set the counter
 abbrev pub IsKept : Option Shift → StraightTree → Type 0

@@ -9,9 +9,9 @@ use Rattle.optimisation.specs.Below.{of_element, of_number, of_prefix, of_rotati
 use Rattle.optimisation.specs.Below.{TermHasType, TermTree, Types, Values, variable, word_as, WordType}
 use Rattle.optimisation.specs.declared.iteration_groups.terms.Shift.{Shift}
 use Rattle.optimisation.specs.iteration_groups.private.Grouping.{counter_at, shifted, variable_at}
-use Rattle.optimisation.proofs.over_lemmas.Values.{same_path, IsAlike, AreAllAlike, IsResultAlike, prefix_alike}
-use Rattle.optimisation.proofs.over_lemmas.Values.{binary_alike, rotate_alike, convert_alike, select_alike}
-use Rattle.optimisation.proofs.over_lemmas.Values.{element_alike, all_values_alike}
+use Rattle.straight_words.proofs.over_lemmas.Values.{same_path, IsAlike, AreAllAlike, IsResultAlike, prefix_alike}
+use Rattle.straight_words.proofs.over_lemmas.Values.{binary_alike, rotate_alike, convert_alike, select_alike}
+use Rattle.straight_words.proofs.over_lemmas.Values.{element_alike, all_values_alike}
 
 -- a counter of a group is a word, the base lies behind all variables, and the number of the iteration is a word's
 pub record IsPlace (declared : List FlatVariable) (shift : Shift) (w : ℕ) : Type 0 where

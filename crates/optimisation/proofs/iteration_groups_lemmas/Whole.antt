@@ -7,15 +7,15 @@ use Rattle.std.proofs.lemmas.Option.{cond_some, slice_get-get_or}
 use Rattle.optimisation.specs.Below.{Arg, chain, checked, counter_type, declaration_of, end_of, FlatVariable}
 use Rattle.optimisation.specs.Below.{IsReplaced, IsStraight, nothing, outcome_of, path_along, path_of_result, start}
 use Rattle.optimisation.specs.Below.{StraightBlock, StraightProgram, TermTree, types_of, with_variables, word_as}
-use Rattle.optimisation.specs.element_words.Limits.{most_variable_words}
+use Rattle.straight_words.specs.element_words.Limits.{most_variable_words}
 use Rattle.optimisation.specs.iteration_groups.private.Grouping.{base_behind, base_type, grouped_all, grouped_by}
 use Rattle.optimisation.specs.iteration_groups.private.Grouping.{made_by, plan_of, shifted}
 use Rattle.optimisation.proofs.iteration_groups_lemmas.Runs.{all_follow, InStep}
 use Rattle.optimisation.proofs.iteration_groups_lemmas.Values.{result_stands}
-use Rattle.optimisation.proofs.over_lemmas.Beside.{AreBeside, RunsBeside}
-use Rattle.optimisation.proofs.over_lemmas.Starts.{given_front, same_arrays}
-use Rattle.optimisation.proofs.over_lemmas.Values.{both, IsNoWorse, IsResultAlike}
-use Rattle.optimisation.proofs.over_lemmas.Whole.{is_replaced}
+use Rattle.straight_words.proofs.over_lemmas.Beside.{AreBeside, RunsBeside}
+use Rattle.straight_words.proofs.over_lemmas.Starts.{given_front, same_arrays}
+use Rattle.straight_words.proofs.over_lemmas.Values.{both, IsNoWorse, IsResultAlike}
+use Rattle.straight_words.proofs.over_lemmas.Whole.{is_replaced}
 
 -- the program over groups, with the base behind all variables
 abbrev pub program_of : StraightProgram → StraightProgram

@@ -7,11 +7,11 @@ ghost use Rattle.optimisation.specs.constants.private.Choice.{instead, is_kept, 
 ghost use Rattle.optimisation.specs.constants.private.Choice.{settled, totals_of};
 
 use crate::constants::costs::{ITERATION_COST, cost_by_all};
-use crate::element_words::SplitArrays;
 use crate::iteration_groups::choice::{LEAST_ITERATIONS, is_groupable};
 use crate::nodes::{INDEX_NODES, nodes_in, nodes_in_all};
 use branch_removal::{StraightCode, StraightStatement};
 use std::alloc::{AllocError, Global};
+use straight_words::element_words::SplitArrays;
 
 /// How many nodes the iterations of loops have room for, for each node of the source.
 const ROOM_FACTOR: u64 = 32;

@@ -7,9 +7,9 @@ ghost use Rattle.optimisation.specs.constants.private.Simplification.{may_be_rea
 
 use crate::constants::known::{KnownWords, WordCopy};
 use crate::constants::terms::constant_of;
-use crate::same_words::{are_alike, at};
 use inline::{FlatVariable, Term};
 use std::alloc::AllocError;
+use straight_words::same_words::{are_alike, at};
 
 /// Whether a variable that is set to another one may be read as that one.
 fn may_be_read_as(declared: &[FlatVariable], variable: u32, source: u32) -> bool

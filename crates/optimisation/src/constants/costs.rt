@@ -5,14 +5,14 @@ ghost use Rattle.std.specs.Prelude.{◌≡◌, map};
 ghost use Rattle.optimisation.specs.Below.{straight_block, straight_tree, term_tree};
 ghost use Rattle.optimisation.specs.constants.private.Costs.{access_cost, all_cost, cost, cost_at, cost_by};
 ghost use Rattle.optimisation.specs.constants.private.Costs.{cost_by_all, loop_cost, stays_known};
-ghost use Rattle.optimisation.specs.element_words.private.Parts.{part_of};
+ghost use Rattle.straight_words.specs.element_words.private.Parts.{part_of};
 ghost use Rattle.optimisation.specs.private.Nodes.{counted};
 
 use crate::constants::choice::unroll_limit_of;
-use crate::element_words::SplitArrays;
 use crate::iteration_groups::losses::is_near;
 use branch_removal::StraightStatement;
 use inline::Term;
+use straight_words::element_words::SplitArrays;
 
 /// What an access takes of an array that would be words if all its indices were numbers: far more than any other.
 const SPLIT_COST: u64 = 1_024;

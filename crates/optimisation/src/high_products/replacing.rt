@@ -7,11 +7,11 @@ ghost use Rattle.optimisation.specs.high_products.private.Replacing.{replaced_pr
 
 use crate::high_products::finding::program_makes;
 use crate::high_products::terms::UpperWords;
-use crate::rewriting::statements::block;
-use crate::rewriting::terms::rewritten_where_any;
 use branch_removal::StraightCode;
 use language::Refusal;
 use std::alloc::{AllocError, Global};
+use straight_words::rewriting::statements::block;
+use straight_words::rewriting::terms::rewritten_where_any;
 
 /// The program with operators, where it passes the test for straight code.
 fn replaced<'f>(

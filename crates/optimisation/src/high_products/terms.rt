@@ -5,10 +5,10 @@ ghost use Rattle.optimisation.specs.Below.{term_tree};
 ghost use Rattle.optimisation.specs.high_products.private.Replacing.{product_of};
 
 use crate::high_products::shapes::{Factors, upper_word};
-use crate::rewriting::Rewriting;
 use inline::Term;
 use language::{BinaryOperator, Place};
 use std::alloc::{AllocError, Global};
+use straight_words::rewriting::Rewriting;
 use word::Width;
 
 /// The operator between two variables.

@@ -9,11 +9,11 @@ ghost use Rattle.optimisation.specs.iteration_groups.private.Choice.{number_in, 
 ghost use Rattle.optimisation.specs.private.Nodes.{counted};
 
 use crate::constants::terms::CounterRange;
-use crate::element_words::SplitArrays;
 use crate::iteration_groups::losses::lost_by_all;
 use crate::nodes::{INDEX_NODES, nodes_in, nodes_in_all};
 use branch_removal::StraightStatement;
 use inline::Term;
+use straight_words::element_words::SplitArrays;
 
 /// How many iterations a loop makes at least that is grouped.
 pub const LEAST_ITERATIONS: u32 = 16;

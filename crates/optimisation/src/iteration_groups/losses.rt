@@ -3,15 +3,15 @@
 
 ghost use Rattle.std.specs.Prelude.{◌≡◌, ◌==◌, if◌then◌else◌, map};
 ghost use Rattle.optimisation.specs.Below.{straight_block, straight_tree, term_tree};
-ghost use Rattle.optimisation.specs.element_words.private.Parts.{part_of};
+ghost use Rattle.straight_words.specs.element_words.private.Parts.{part_of};
 ghost use Rattle.optimisation.specs.iteration_groups.private.Losses.{all_lost, is_near, is_number, is_variable, lost};
 ghost use Rattle.optimisation.specs.iteration_groups.private.Losses.{lost_at, lost_by, lost_by_all, lost_part, moves};
 ghost use Rattle.optimisation.specs.private.Nodes.{counted};
 
-use crate::element_words::SplitArrays;
 use branch_removal::StraightStatement;
 use inline::Term;
 use language::BinaryOperator;
+use straight_words::element_words::SplitArrays;
 
 /// Whether an expression is a variable.
 fn is_variable(term: &Term) -> bool

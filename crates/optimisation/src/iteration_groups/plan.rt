@@ -5,14 +5,14 @@ ghost use Rattle.optimisation.specs.Below.{IsReplaced, IsWantOfMemory};
 ghost use Rattle.optimisation.specs.iteration_groups.Exact.{grouped_of, groups_for};
 ghost use Rattle.optimisation.specs.iteration_groups.private.Grouping.{base_behind, base_type};
 
-use crate::element_words::MOST_VARIABLE_WORDS;
 use crate::iteration_groups::statements::{Copying, push_all};
-use crate::rewriting::terms::rewritten_where_any;
 use branch_removal::StraightCode;
 use inline::FlatVariable;
 use language::{Kind, Label, Refusal, WordType};
 use std::alloc::{AllocError, Global};
 use std::marker::Model;
+use straight_words::element_words::MOST_VARIABLE_WORDS;
+use straight_words::rewriting::terms::rewritten_where_any;
 
 /// The variable of the base.
 fn base_type() -> FlatVariable
@@ -100,7 +100,7 @@ impl IterationGroups {
             shift: None,
         };
         push_all(copying, &mut code, straight.body())?;
-        let value = rewritten_where_any(alloc, &copying.shift, straight.value())?;
+        let value = rewritten_where_any(alloc, &copying, straight.value())?;
         Ok(straight.rewritten(self.declared.as_slice(), code, value))
     }
 }

@@ -9,16 +9,17 @@ ghost use Rattle.optimisation.specs.iteration_groups.private.Grouping.{copies, f
 ghost use Rattle.optimisation.specs.iteration_groups.private.Grouping.{grouped_all, grouped_loop, number_set, shift_to};
 
 use crate::constants::terms::CounterRange;
-use crate::element_words::SplitArrays;
-use crate::element_words::statements::push;
 use crate::iteration_groups::choice::grouped_range;
-use crate::iteration_groups::terms::Shift;
-use crate::rewriting::statements::rewritten_statement;
-use crate::rewriting::terms::rewritten;
+use crate::iteration_groups::terms::{Shift, variable_at};
 use branch_removal::{StraightStatement, branch_of, loop_of};
 use inline::Term;
 use language::{BinaryOperator, Kind};
 use std::alloc::{AllocError, Global};
+use straight_words::element_words::SplitArrays;
+use straight_words::element_words::statements::push;
+use straight_words::rewriting::Rewriting;
+use straight_words::rewriting::statements::rewritten_statement;
+use straight_words::rewriting::terms::rewritten;
 use word::{Place, Width};
 
 /// How many iterations are one.
@@ -41,6 +42,27 @@ pub struct Copying {
     pub alloc: Global,
     pub base: u32,
     pub shift: Option<Shift>,
+}
+
+/// The counter of a group, with its number in its place; in no group nothing is changed.
+impl Rewriting for Copying {
+    ghost use Rattle.optimisation.specs.iteration_groups.private.Grouping.{counter_instead};
+
+    ghost rule = { λ copying. counter_instead copying.shift };
+
+    fn instead(&self, alloc: Global, term: &Term) -> Result<Option<Term>, AllocError> {
+        match term {
+            Term::Variable(variable) => Ok(Some(variable_at(alloc, self.shift, *variable)?)),
+            Term::Number(_, _)
+            | Term::Truth(_)
+            | Term::Prefix(_, _, _)
+            | Term::Binary(_, _, _, _, _)
+            | Term::Rotate(_, _, _)
+            | Term::Convert(_, _)
+            | Term::Select(_, _, _)
+            | Term::Element(_, _, _, _) => Ok(None),
+        }
+    }
 }
 
 /// A word is set to a number.
@@ -84,17 +106,17 @@ fn statement(
     ensures { OnOk result (straight_block code.new.items ≡ chain (straight_block code.old.items)
         (grouped copying.shift copying.base (straight_tree statement.now))) }
 {
-    let Copying { alloc, shift, .. } = copying;
+    let alloc = copying.alloc;
     match statement {
         StraightStatement::Set(_, _, _)
         | StraightStatement::Array(_, _, _)
         | StraightStatement::Put(_, _, _, _, _, _)
         | StraightStatement::Take(_, _, _) => {
-            let made = rewritten_statement(alloc, &shift, statement)?;
+            let made = rewritten_statement(alloc, &copying, statement)?;
             push(code, made)
         }
         StraightStatement::Branch(condition, accepted, otherwise) => {
-            let condition = rewritten(alloc, &shift, condition)?;
+            let condition = rewritten(alloc, &copying, condition)?;
             let one = block(copying, accepted)?;
             let other = block(copying, otherwise)?;
             push(code, branch_of(condition, one, other))
@@ -131,8 +153,8 @@ fn push_loop(
             return push_groups(alloc, code, each, body);
         }
     }
-    let low = rewritten(alloc, &shift, low)?;
-    let high = rewritten(alloc, &shift, high)?;
+    let low = rewritten(alloc, &copying, low)?;
+    let high = rewritten(alloc, &copying, high)?;
     let iteration = block(copying, body)?;
     push(code, loop_of(counter, low, high, iteration))
 }

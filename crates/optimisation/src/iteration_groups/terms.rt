@@ -4,7 +4,6 @@ ghost use Rattle.std.specs.Prelude.{◌≡◌, IfOk};
 ghost use Rattle.optimisation.specs.Below.{term_tree};
 ghost use Rattle.optimisation.specs.iteration_groups.private.Grouping.{counter_at, variable_at};
 
-use crate::rewriting::Rewriting;
 use inline::Term;
 use language::{BinaryOperator, Kind};
 use std::alloc::{AllocError, Global};
@@ -29,7 +28,7 @@ fn counter_at(alloc: Global, shift: Shift) -> Result<Term, AllocError>
 }
 
 /// A variable, or the number of the counter that it is.
-fn variable_at(alloc: Global, shift: Option<Shift>, variable: u32) -> Result<Term, AllocError>
+pub fn variable_at(alloc: Global, shift: Option<Shift>, variable: u32) -> Result<Term, AllocError>
     ensures { IfOk result (λ made. term_tree made ≡ variable_at shift variable) }
 {
     match shift {
@@ -41,26 +40,5 @@ fn variable_at(alloc: Global, shift: Option<Shift>, variable: u32) -> Result<Ter
             }
         }
         None => Ok(Term::Variable(variable)),
-    }
-}
-
-/// The counter of a group, with its number in its place; in no group nothing is changed.
-impl Rewriting for Option<Shift> {
-    ghost use Rattle.optimisation.specs.iteration_groups.private.Grouping.{counter_instead};
-
-    ghost rule = { counter_instead };
-
-    fn instead(&self, alloc: Global, term: &Term) -> Result<Option<Term>, AllocError> {
-        match term {
-            Term::Variable(variable) => Ok(Some(variable_at(alloc, *self, *variable)?)),
-            Term::Number(_, _)
-            | Term::Truth(_)
-            | Term::Prefix(_, _, _)
-            | Term::Binary(_, _, _, _, _)
-            | Term::Rotate(_, _, _)
-            | Term::Convert(_, _)
-            | Term::Select(_, _, _)
-            | Term::Element(_, _, _, _) => Ok(None),
-        }
     }
 }

@@ -6,7 +6,7 @@ use Rattle.std.proofs.lemmas.Result.{IfOk-weaker}
 use Rattle.hepurita.specs.Below.{optimised_fields_of, simplified_of, StraightProgram}
 use Rattle.hepurita.specs.Needs.{needs_as, optimised_needs}
 use Rattle.hepurita.specs.Exact.{after, fitted_where_shared}
-use Rattle.optimisation.specs.element_words.Exact.{split_of}
+use Rattle.straight_words.specs.element_words.Exact.{split_of}
 use Rattle.hepurita.proofs.PassedOn.{after_pass, stands_on}
 use Rattle.hepurita.proofs.optimising.finished.Goals as goal
 

@@ -6,8 +6,8 @@ use Rattle.std.proofs.lemmas.Result.{IfOk-weaker}
 use Rattle.hepurita.specs.Below.{optimised_fields_of, StraightProgram}
 use Rattle.hepurita.specs.Needs.{needs_as, optimised_needs}
 use Rattle.hepurita.proofs.PassedOn.{after_made, after_none}
-use Rattle.optimisation.specs.needed_variables.Exact.{fitted_of}
-use Rattle.optimisation.specs.number_words.Exact.{numbers_as_words}
+use Rattle.variable_room.specs.needed_variables.Exact.{fitted_of}
+use Rattle.variable_room.specs.number_words.Exact.{numbers_as_words}
 use Rattle.hepurita.proofs.optimising.fitted_with_words.Goals as goal
 
 pub returns-in-Some-clause-generated : goal.returns-in-Some-clause-generated

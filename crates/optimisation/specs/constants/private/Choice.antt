@@ -12,7 +12,7 @@ use Rattle.optimisation.specs.declared.constants.choice.Choice.{Choice}
 use Rattle.optimisation.specs.constants.private.Costs.{cost_by_all}
 use Rattle.optimisation.specs.declared.constants.choice.Counts.{Counts}
 use Rattle.optimisation.specs.declared.constants.choice.Totals.{Totals}
-use Rattle.optimisation.specs.element_words.private.Parts.{candidates, Parts}
+use Rattle.straight_words.specs.element_words.private.Parts.{candidates, Parts}
 use Rattle.optimisation.specs.iteration_groups.private.Choice.{is_groupable, least_iterations}
 pub use Rattle.optimisation.specs.private.Nodes.{counted, term_size, terms_size}
 

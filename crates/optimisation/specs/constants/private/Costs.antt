@@ -7,8 +7,8 @@ use Rattle.std.specs.Prelude.{None, Option, slice_index, Some}
 use Rattle.optimisation.specs.Below.{array, binary, branch, convert, element, first, nothing, number, prefix, put}
 use Rattle.optimisation.specs.Below.{repeats, rotate, select, set, StraightBlock, StraightTree, take, TermTree, truth}
 use Rattle.optimisation.specs.Below.{variable}
-use Rattle.optimisation.specs.declared.element_words.parts.SplitArray.{SplitArray}
-use Rattle.optimisation.specs.element_words.private.Parts.{part_of, Parts}
+use Rattle.straight_words.specs.declared.element_words.parts.SplitArray.{SplitArray}
+use Rattle.straight_words.specs.element_words.private.Parts.{part_of, Parts}
 use Rattle.optimisation.specs.iteration_groups.private.Losses.{is_near}
 use Rattle.optimisation.specs.private.Nodes.{counted}
 

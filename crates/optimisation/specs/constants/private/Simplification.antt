@@ -7,7 +7,7 @@ use Rattle.std.specs.Option.{option_map}
 use Rattle.optimisation.specs.Below.{array, branch, chain, counter_type, first, FlatVariable, nothing, number, put}
 use Rattle.optimisation.specs.Below.{repeats, set, StraightBlock, StraightProgram, StraightTree, take, TermTree}
 use Rattle.optimisation.specs.Below.{iterations, variable, with_body}
-use Rattle.optimisation.specs.private.SameWords.{are_alike}
+use Rattle.straight_words.specs.private.SameWords.{are_alike}
 use Rattle.optimisation.specs.declared.constants.terms.CounterRange.{CounterRange}
 use Rattle.optimisation.specs.constants.private.Folding.{simple, constant, constant_of, decision, numbers_of}
 use Rattle.optimisation.specs.constants.private.Known.{WordFacts, with_copy, with_word, without, in_loop, behind}

@@ -7,7 +7,7 @@ use Rattle.optimisation.specs.Below.{prefix, put, repeats, rotate, select, set, 
 use Rattle.optimisation.specs.Below.{StraightTree, take, TermTree, truth, variable, W32, with_variables}
 use Rattle.optimisation.specs.declared.high_products.shapes.Factors.{Factors}
 use Rattle.optimisation.specs.high_products.private.Shapes.{upper_word}
-use Rattle.optimisation.specs.private.Rewriting.{rewritten, rewritten_all, rewritten_in}
+use Rattle.straight_words.specs.private.Rewriting.{rewritten, rewritten_all, rewritten_in}
 
 -- Whether code makes one.
 

@@ -6,7 +6,7 @@ use Rattle.std.specs.Option.{option_and_then}
 use Rattle.optimisation.specs.Below.{array, branch, first, nothing, number, put, repeats, set, StraightBlock}
 use Rattle.optimisation.specs.Below.{StraightTree, take, TermTree}
 use Rattle.optimisation.specs.declared.constants.terms.CounterRange.{CounterRange}
-use Rattle.optimisation.specs.element_words.private.Parts.{Parts}
+use Rattle.straight_words.specs.element_words.private.Parts.{Parts}
 use Rattle.optimisation.specs.iteration_groups.private.Losses.{lost_by_all}
 use Rattle.optimisation.specs.private.Nodes.{counted, term_size, terms_size}
 

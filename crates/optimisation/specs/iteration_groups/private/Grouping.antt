@@ -10,12 +10,12 @@ use Rattle.optimisation.specs.Below.{Add, array, binary, branch, chain, checked,
 use Rattle.optimisation.specs.Below.{nothing, number, Public, put, repeats, set, ShiftLeft, StraightBlock}
 use Rattle.optimisation.specs.Below.{StraightProgram, StraightTree, take, TermTree, Uint32, variable, W32}
 use Rattle.optimisation.specs.Below.{with_variables, word_as}
-use Rattle.optimisation.specs.element_words.Limits.{most_variable_words}
-use Rattle.optimisation.specs.element_words.private.Splitting.{single}
+use Rattle.straight_words.specs.element_words.Limits.{most_variable_words}
+use Rattle.straight_words.specs.element_words.private.Splitting.{single}
 use Rattle.optimisation.specs.declared.constants.terms.CounterRange.{CounterRange}
 use Rattle.optimisation.specs.declared.iteration_groups.terms.Shift.{Shift}
 use Rattle.optimisation.specs.iteration_groups.private.Choice.{grouped_range}
-use Rattle.optimisation.specs.private.Rewriting.{rewritten}
+use Rattle.straight_words.specs.private.Rewriting.{rewritten}
 
 -- the number of a counter: the base and an offset
 abbrev pub counter_at : Shift → TermTree

@@ -6,8 +6,8 @@ use Rattle.std.specs.Prelude.{None, Some}
 use Rattle.optimisation.specs.Below.{Add, array, binary, BinaryOperator, branch, convert, element, first, nothing}
 use Rattle.optimisation.specs.Below.{number, prefix, put, repeats, rotate, select, set, StraightBlock, StraightTree}
 use Rattle.optimisation.specs.Below.{Subtract, take, TermTree, truth, variable}
-use Rattle.optimisation.specs.declared.element_words.parts.SplitArray.{SplitArray}
-use Rattle.optimisation.specs.element_words.private.Parts.{part_of, Parts}
+use Rattle.straight_words.specs.declared.element_words.parts.SplitArray.{SplitArray}
+use Rattle.straight_words.specs.element_words.private.Parts.{part_of, Parts}
 
 abbrev pub is_variable : TermTree → Bool
 is_variable (variable x) = true

@@ -1,7 +1,0 @@
-use Rattle.std.proofs.Common.{refl}
-use Rattle.optimisation.specs.element_words.Exact.{words_of}
-use Rattle.optimisation.proofs.element_words.plan.ElementWords.of.Goals as goal
-
-pub returns-clause-exact : goal.returns-clause-exact
-unfolding words_of
-returns-clause-exact c = rw (c.in_ok-declared.ensures, c.declared.ensures, c.in_ok-parts.ensures) refl

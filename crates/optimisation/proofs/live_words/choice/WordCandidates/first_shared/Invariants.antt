@@ -1,9 +1,0 @@
-use Rattle.std.proofs.Common.{◌≡◌, drop}
-use Rattle.optimisation.specs.live_words.private.Choice.{first_shared, words_of}
-use Rattle.optimisation.proofs.live_words.choice.WordCandidates.first_shared.Given as goal
-
--- none of those so far is it
-abbrev pub invariant-loop-variable : goal.invariant-loop-variable
-invariant-loop-variable l =
-    first_shared (words_of l.self) l.conflicts l.word (drop l.variable-index l.variables)
-    ≡ first_shared (words_of l.self) l.conflicts l.word l.variables

@@ -1,7 +1,0 @@
-use Rattle.std.proofs.Common.{◌≡◌, ◌-◌, ◌++◌}
-use Rattle.optimisation.specs.live_words.private.Choice.{own_variables}
-use Rattle.optimisation.proofs.live_words.choice.own_variables.Given as goal
-
--- those so far and those that are left
-abbrev pub invariant-loop-word : goal.invariant-loop-word
-invariant-loop-word l = l.table.items ++ own_variables (l.width - l.word) l.word ≡ own_variables l.width 0

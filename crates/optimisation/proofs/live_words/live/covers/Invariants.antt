@@ -1,8 +1,0 @@
-use Rattle.std.proofs.Common.{◌≡◌, drop}
-use Rattle.optimisation.specs.live_words.private.Held.{covers}
-use Rattle.optimisation.proofs.live_words.live.covers.Given as goal
-
--- those so far are held here
-abbrev pub invariant-loop-variable : goal.invariant-loop-variable
-invariant-loop-variable l =
-    covers l.these l.variable (drop l.variable l.holders) ≡ covers l.these 0 l.holders

@@ -1,7 +1,0 @@
-use Rattle.std.proofs.Common.{◌≡◌, drop}
-use Rattle.optimisation.specs.live_words.private.Held.{hold_own}
-use Rattle.optimisation.proofs.live_words.live.hold_own.Given as goal
-
--- those so far hold their own
-abbrev pub invariant-loop-variable : goal.invariant-loop-variable
-invariant-loop-variable l = hold_own l.variable (drop l.variable l.holders) ≡ hold_own 0 l.holders

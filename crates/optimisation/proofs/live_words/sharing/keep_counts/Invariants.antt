@@ -1,8 +1,0 @@
-use Rattle.std.proofs.Common.{◌≡◌, drop}
-use Rattle.optimisation.specs.live_words.private.Whole.{keep_counts}
-use Rattle.optimisation.proofs.live_words.sharing.keep_counts.Given as goal
-
--- those so far keep them
-abbrev pub invariant-loop-word : goal.invariant-loop-word
-invariant-loop-word l =
-    keep_counts l.iterations l.word (drop l.word l.table) ≡ keep_counts l.iterations 0 l.table

@@ -1,7 +1,0 @@
-use Rattle.std.proofs.Common.{refl}
-use Rattle.optimisation.specs.number_words.Exact.{number_words_of}
-use Rattle.optimisation.proofs.number_words.plan.NumberWords.of.Goals as goal
-
-pub returns-clause-exact : goal.returns-clause-exact
-unfolding number_words_of
-returns-clause-exact c = rw (c.in_ok-declared.ensures, c.declared.ensures, c.as_slice.ensures.value, c.in_ok-words.ensures) refl

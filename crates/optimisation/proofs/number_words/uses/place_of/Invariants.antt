@@ -1,7 +1,0 @@
-use Rattle.std.proofs.Common.{◌≡◌, ◌+◌, drop}
-use Rattle.optimisation.specs.number_words.private.Uses.{place_of}
-use Rattle.optimisation.proofs.number_words.uses.place_of.Given as goal
-
--- none of those so far is it
-abbrev pub invariant-loop-place : goal.invariant-loop-place
-invariant-loop-place l = l.place + place_of (drop l.place l.uses) l.number ≡ place_of l.uses l.number

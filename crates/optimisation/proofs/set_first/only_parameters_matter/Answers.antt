@@ -1,5 +1,0 @@
-use Rattle.optimisation.proofs.set_first_lemmas.Alike.{only_parameters}
-use Rattle.optimisation.proofs.set_first.only_parameters_matter.Goals as goal
-
-pub returns : goal.returns
-returns c = λ p one other sets agree. only_parameters p one other sets agree
