@@ -33,7 +33,7 @@ LOOPS = [
     ("elf_runs/src/code.rt", "halfwords_of", "the bytes that a file has of a segment: a halfword for every two"),
     ("elf_runs/src/code.rt", "words_of", "the bytes that a file has of a segment: a word for every four"),
     ("functions/src/function_code/copying.rt", "elements", "sixteen elements at most, by its precondition"),
-    ("hepurita/src/blank.rt", "push_words", "the words of a variable of the frame, 32,768 at most, by its precondition"),
+    ("compilation/src/blank.rt", "push_words", "the words of a variable of the frame, 32,768 at most, by its precondition"),
     ("hepurita/src/elements.rt", "numbers", "the elements of an array of the frame, put into room that is there"),
     ("image/src/reading.rt", "slots", "the bytes that are left: a slot that they do not spell ends it"),
     ("image/src/reading.rt", "words", "the bytes that are left: a word that they do not spell ends it"),

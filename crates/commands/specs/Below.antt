@@ -58,7 +58,7 @@ pub use Rattle.hepurita.specs.Paired.{compared, first_of, Paired}
 pub use Rattle.hepurita.specs.Told.{IsRefusalOf}
 pub use Rattle.hepurita.specs.declared.fault.RunFault.{RunFault}
 pub use Rattle.hepurita.specs.declared.fault.RunFault.TheVariants.{Argument, Memory, Stopped}
-pub use Rattle.hepurita.specs.declared.optimised.Optimisation.{Optimisation}
+pub use Rattle.compilation.specs.declared.optimised.Optimisation.{Optimisation}
 pub use Rattle.listing.specs.Code.{IsLineAt, ListsCode}
 pub use Rattle.listing.specs.Leaked.{IsLeak, Leaks}
 pub use Rattle.listing.specs.Lines.{lines_of, stop_line}

@@ -30,7 +30,7 @@ pub use Rattle.codegen.specs.image_fields.Fields.{Fields}
 pub use Rattle.codegen.specs.program_logic.Jumps.{over}
 pub use Rattle.syntax.specs.Spelling.{is_name_or_keyword, is_word_byte}
 pub use Rattle.hepurita.specs.Built.{accepts, fine, IsCompilation, Judges, readable}
-pub use Rattle.hepurita.specs.declared.optimised.Optimisation.{Optimisation}
+pub use Rattle.compilation.specs.declared.optimised.Optimisation.{Optimisation}
 pub use Rattle.linked_calls.specs.Callable.{CallsAreLinked, IsCallable}
 pub use Rattle.linked_calls.specs.Convention.{argument_registers, link_register, result_register, saved_registers}
 pub use Rattle.linked_calls.specs.Convention.{scratch_registers, stack_register}

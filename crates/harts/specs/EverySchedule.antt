@@ -5,7 +5,7 @@ use Rattle.harts.specs.Below.{AreWithin, ByteMap, Ecall, HartObservation, IsInsi
 use Rattle.harts.specs.Below.{Observation, of_hart, params_of, ProgramTree, results_in, System, steps_of}
 use Rattle.harts.specs.SideBySide.{frame_base_of, Job, loaded_alone, member_of}
 use Rattle.hepurita.specs.Built.{IsBuilt}
-use Rattle.hepurita.specs.declared.optimised.Optimisation.{Optimisation}
+use Rattle.compilation.specs.declared.optimised.Optimisation.{Optimisation}
 use Rattle.image.specs.Reading.{Spells}
 use Rattle.word.specs.declared.profile.Profile.{Profile}
 

@@ -13,7 +13,7 @@ use Rattle.hepurita.specs.Answers.{Builds, IsTheOutcome, IsSame}
 use Rattle.hepurita.specs.Executed.{Executed, answer_at, refused, out_of_memory, ran}
 use Rattle.hepurita.specs.Paired.{Paired, Observed, pair_fault}
 use Rattle.hepurita.specs.Paired as pairs
-use Rattle.hepurita.specs.declared.optimised.Optimisation.{Optimisation}
+use Rattle.compilation.specs.declared.optimised.Optimisation.{Optimisation}
 use Rattle.hepurita.proofs.JudgementLemmas.{one_export}
 
 -- ---- the laws of the layers below

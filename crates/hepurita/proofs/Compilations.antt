@@ -5,11 +5,11 @@ use Rattle.hepurita.specs.Below.{ProgramTree, ranged, StraightProgram}
 use Rattle.image.proofs.Spellings.{allowed_by_bytes}
 use Rattle.hepurita.specs.Answers.{Builds}
 use Rattle.hepurita.specs.Built.{IsCompilation, Judges, accepts, fine, readable}
-use Rattle.hepurita.specs.Exact.{image_for}
-use Rattle.hepurita.specs.declared.optimised.Optimisation.{Optimisation}
+use Rattle.compilation.specs.Exact.{image_for}
+use Rattle.compilation.specs.declared.optimised.Optimisation.{Optimisation}
 use Rattle.hepurita.proofs.BaseLemmas.{bases_of}
-use Rattle.hepurita.specs.Begun.{FollowsAnywhere}
-use Rattle.hepurita.specs.Needs.{Needs}
+use Rattle.compilation.specs.Begun.{FollowsAnywhere}
+use Rattle.compilation.specs.Needs.{Needs}
 use Rattle.hepurita.specs.Linked.{StartsAnywhere}
 use Rattle.hepurita.proofs.TheoremLemmas.{sources_compiled, sources_started}
 

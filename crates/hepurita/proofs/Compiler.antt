@@ -9,8 +9,8 @@ use Rattle.branch_removal.specs.StraightMeaning.{outcome_of, path_of}
 use Rattle.inline.specs.Path.{Path, seen as seen_of}
 use Rattle.hepurita.proofs.Below.{Halts-determined}
 use Rattle.hepurita.specs.Compiled.{Means, WholeRun, RunsTo, TwoRuns, IsCompiled}
-use Rattle.hepurita.specs.Begun.{FollowsAnywhere, IsBegun}
-use Rattle.hepurita.specs.Needs.{Needs}
+use Rattle.compilation.specs.Begun.{FollowsAnywhere, IsBegun}
+use Rattle.compilation.specs.Needs.{Needs}
 use Rattle.hepurita.specs.Linked.{IsLinked, StartsAnywhere}
 
 -- a procedure, the program's export, means what its body with numbered variables means

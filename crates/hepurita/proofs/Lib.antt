@@ -20,14 +20,8 @@ pub mod TheoremLemmas
 pub mod AnswerLemmas
 pub mod OneImage
 pub mod Compilations
-pub mod PassedOn
 pub mod BaseLemmas
 pub mod Compiler
-pub mod PutArguments
-pub mod FrameValues
-pub mod BlankLemmas
-pub mod AnyFrame
-pub mod Anywhere
 pub mod RangePlaces
 pub mod EvalLemmas
 pub mod CallLemmas

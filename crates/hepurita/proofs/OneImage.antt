@@ -4,8 +4,8 @@ use Rattle.std.specs.Result.{IfOk}
 use Rattle.image.proofs.Spellings.{one_by_fields}
 use Rattle.hepurita.specs.Below.{Fields, OneAnswer, ProcedureTree, Profile, ProgramTree, Spells}
 use Rattle.hepurita.specs.Built.{IsBuilt, IsCompilation}
-use Rattle.hepurita.specs.Exact.{image_for}
-use Rattle.hepurita.specs.declared.optimised.Optimisation.{Optimisation}
+use Rattle.compilation.specs.Exact.{image_for}
+use Rattle.compilation.specs.declared.optimised.Optimisation.{Optimisation}
 use Rattle.hepurita.proofs.JudgementLemmas.{one_export}
 
 -- both facts of what was answered

@@ -11,8 +11,8 @@ use Rattle.intervals.specs.Loose.{IsSafe}
 use Rattle.hepurita.specs.Compiled.{Means, IsCompiled}
 use Rattle.source_eval.proofs.WorkedOut.{worked-out}
 use Rattle.hepurita.specs.Built.{IsSmall, JudgesProgram, accepts}
-use Rattle.hepurita.specs.Begun.{FollowsAnywhere}
-use Rattle.hepurita.specs.Needs.{Needs}
+use Rattle.compilation.specs.Begun.{FollowsAnywhere}
+use Rattle.compilation.specs.Needs.{Needs}
 use Rattle.hepurita.specs.Linked.{StartsAnywhere}
 use Rattle.hepurita.proofs.Compiler.{compiled, started}
 use Rattle.hepurita.proofs.GrammaticalExports.{HasGrammaticalExport, grammatical_export, same_work}

@@ -6,7 +6,7 @@ use Rattle.hepurita.specs.declared.fault.RunFault.{RunFault}
 use Rattle.hepurita.specs.declared.fault.RunFault.TheVariants.{Memory, Stopped}
 use Rattle.hepurita.specs.Built.{Judges, accepts, IsBuilt}
 use Rattle.hepurita.specs.Compiled.{Means}
-use Rattle.hepurita.specs.declared.optimised.Optimisation.{Optimisation}
+use Rattle.compilation.specs.declared.optimised.Optimisation.{Optimisation}
 
 -- a source that is accepted with this export, for an observer, and the plain or the optimised image that its bytes
 -- spell

@@ -121,7 +121,6 @@ pub use Rattle.branch_removal.specs.StraightMeaning.{path_of}
 pub use Rattle.inline.specs.Path.{AreFine, Path, seen}
 pub use Rattle.codegen.specs.Anywhere.{BodyRun, IsLoaded, IsPlaced, RunsBehind}
 pub use Rattle.codegen.specs.Bases.{AreBases, IsInside}
-unfoldable pub use Rattle.codegen.specs.Exact.{fields_of, optimised_fields_of, optimised_variables}
 pub use Rattle.codegen.specs.Followed.{IsGenerated, RunsAs}
 pub use Rattle.codegen.specs.Loaded.{array_in, arrays_in, code_at, loaded_at, numbers_at, params_of, results_in}
 pub use Rattle.codegen.specs.Loaded.{with_argument, with_arguments, with_numbers}
@@ -150,6 +149,4 @@ pub use Rattle.syntax.specs.declared.lexer.piece.Piece.TheVariants.{Space, Token
 pub use Rattle.syntax.specs.declared.token.TokenKind.{TokenKind}
 pub use Rattle.syntax.specs.declared.token.TokenKind.TheVariants.{Keyword, Name, Number, Sign}
 pub use Rattle.source_eval.specs.Answer.{answer, found_params, judged_answer, run_answer}
-unfoldable pub use Rattle.optimisation.specs.constants.Exact.{simplified_of, unrolled_of}
-pub use Rattle.variable_room.specs.set_whole.Whole.{AgreeBut, set_whole_of}
 pub use Rattle.image.specs.Reading.{AreBytes, Spells}

@@ -6,11 +6,11 @@ use Rattle.hepurita.specs.Below.{Refusal, refused, Rule, size_violations, Spells
 use Rattle.hepurita.specs.source_work.SourceWork.{work_violations}
 use Rattle.hepurita.specs.Bases.{code_base, frame_base, most_images, code_distance, frame_distance}
 use Rattle.std.specs.Option.{option_map}
-use Rattle.hepurita.specs.Needs.{Needs}
+use Rattle.compilation.specs.Needs.{Needs}
 use Rattle.hepurita.specs.Compiled.{IsCompiled}
 use Rattle.hepurita.specs.declared.compiling.Compiled.{Compiled}
-use Rattle.hepurita.specs.Exact.{image_for}
-use Rattle.hepurita.specs.declared.optimised.Optimisation.{Optimisation}
+use Rattle.compilation.specs.Exact.{image_for}
+use Rattle.compilation.specs.declared.optimised.Optimisation.{Optimisation}
 
 pub data Judgement : Type 0 where
   -- a program with this export, and the procedures before it

@@ -1,11 +1,8 @@
 -- What this crate defines, by file.
--- Built: what `build` answers; Flattened: a source up to the passes on size; CodeFor: code for straight code or for
---   what replaces it; Exact: the one plain and the one optimised image; Told: the refusal of a source, and what it
+-- Built: what `build` answers; Flattened: a source up to the passes on size; Told: the refusal of a source, and what it
 --   tells.
 -- Meant: what a program means on arguments; Compiled: what is promised of a compiled image; Linked: of its body in
 --   other code; Uncut, CutOff: of runs that no recorder cuts short, and of runs that are cut off.
--- Blank: the words of a frame that have to be zeros where code begins; Needs: all that code needs of its frame there;
---   Begun: a body in a frame of any bytes.
 -- Listed: all that a source violates.
 -- Executed, Paired, Answers: what `execute` and `pair` answer; Text: how errors of a run are printed.
 -- Bases: the standard base addresses; Frames: where data is in a frame.
@@ -14,14 +11,9 @@ pub mod Bases
 pub mod Frames
 pub mod Meant
 pub mod Linked
-pub mod Blank
-pub mod Needs
-pub mod Begun
 pub mod Compiled
 pub mod Executed
 pub mod Paired
-pub mod Exact
-pub mod CodeFor
 pub mod Built
 pub mod Told
 pub mod Flattened

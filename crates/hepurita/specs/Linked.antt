@@ -1,8 +1,8 @@
 -- What is promised of the body of a compiled image, wherever its words stand, so that it can be the body of a
 -- function: among whatever other code it does what the image does, and leaves what is not its own as it was.
 use Rattle.std.specs.Prelude.{◌≡◌, ℕ, List}
-use Rattle.hepurita.specs.Begun.{IsBegun}
-use Rattle.hepurita.specs.Needs.{Needs}
+use Rattle.compilation.specs.Begun.{IsBegun}
+use Rattle.compilation.specs.Needs.{Needs}
 use Rattle.hepurita.specs.Below.{Agree, AgreeInPublic, AreWithin, Arg, BodyRun, MachineCode, Fields, IsPlaced}
 use Rattle.hepurita.specs.Below.{Observation, params_of, ProcedureTree, ProgramTree, Results, results_in, State}
 use Rattle.hepurita.specs.Meant.{Means}

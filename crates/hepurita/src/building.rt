@@ -6,7 +6,7 @@ ghost use Rattle.hepurita.specs.Built.{Judgement, Judges, IsBuilt, accepts, refu
 ghost use Rattle.hepurita.specs.Told.{IsRefusalOf};
 
 use crate::compiling::compile_with;
-use crate::optimised::Optimisation;
+use compilation::Optimisation;
 use image::write;
 use language::{Profile, Refusal};
 use std::alloc::Global;

@@ -10,7 +10,7 @@ ghost use Rattle.hepurita.specs.Built.{IsBuilt, IsCompilation, Judges, JudgesPro
 ghost use Rattle.hepurita.specs.Compiled.{IsCompiled, Means};
 ghost use Rattle.hepurita.specs.CutOff.{IsRightSoFar};
 ghost use Rattle.hepurita.specs.declared.fault.RunFault.{RunFault};
-ghost use Rattle.hepurita.specs.declared.optimised.Optimisation.{Optimisation};
+ghost use Rattle.compilation.specs.declared.optimised.Optimisation.{Optimisation};
 ghost use Rattle.hepurita.specs.Answers.{Builds, IsTheOutcome, IsSame};
 ghost use Rattle.hepurita.specs.Executed.{Executed, WantsMemory};
 ghost use Rattle.hepurita.specs.Paired.{Paired};

@@ -3,7 +3,6 @@
 // whole promises is said.
 #![tactic(auto)]
 
-mod blank;
 mod building;
 mod checking;
 mod comparing;
@@ -12,14 +11,10 @@ mod elements;
 mod executing;
 mod fault;
 mod flattening;
-mod generated;
 pub mod grammar_laws;
 mod judging;
 mod laws;
 mod loading;
-mod needs;
-mod optimised;
-mod optimising;
 mod reading;
 mod results;
 pub mod run_bounds;
@@ -31,11 +26,11 @@ pub use building::{
 };
 pub use checking::first_fault;
 pub use comparing::{fault_of_both, pair};
-pub use compiling::{Compiled, code_of, compile_with};
+pub use compilation::{FrameNeeds, Generated, Optimisation, code_of};
+pub use compiling::{Compiled, compile_with};
 pub use executing::{answer, execute};
 pub use fault::RunFault;
 pub use flattening::{Flattened, flatten};
-pub use generated::Generated;
 pub use judging::{Accepted, judge, judge_as};
 pub use laws::{
     accepted_sources_are_evaluated, bases_fit, builds_agree, comparisons_agree,
@@ -43,8 +38,6 @@ pub use laws::{
     images_do_what_sources_mean, readings_agree, sources_are_compiled,
 };
 pub use loading::{CODE_BASE, FRAME_BASE, code, frame, load, params, put_argument, put_arguments};
-pub use needs::FrameNeeds;
-pub use optimised::Optimisation;
 pub use reading::read_args;
 pub use results::{ResultSpace, outcome, result_space};
 pub use violating::{listed_violations_are_judged, violations};

@@ -63,14 +63,14 @@ pub use Rattle.codegen.specs.declared.image_fields.slot.Slot.{Slot}
 pub use Rattle.hepurita.specs.source_work.SourceWork.{work_cost}
 pub use Rattle.hepurita.specs.Bases.{code_base, frame_base}
 pub use Rattle.hepurita.specs.Built.{accepts, IsCompilation, Judges}
-pub use Rattle.hepurita.specs.Exact.{code_for}
-unfoldable pub use Rattle.hepurita.specs.Exact.{image_for}
+pub use Rattle.compilation.specs.Exact.{code_for}
+unfoldable pub use Rattle.compilation.specs.Exact.{image_for}
 pub use Rattle.hepurita.specs.Frames.{HoldsSlot}
 pub use Rattle.hepurita.specs.Meant.{Means}
 pub use Rattle.hepurita.specs.Paired.{compared, Observed, Paired}
 pub use Rattle.hepurita.specs.Told.{IsRefusalOf}
 pub use Rattle.hepurita.specs.declared.fault.RunFault.{RunFault}
 pub use Rattle.hepurita.specs.declared.fault.RunFault.TheVariants.{Argument, Memory, Stopped}
-pub use Rattle.hepurita.specs.declared.optimised.Optimisation.{Optimisation}
+pub use Rattle.compilation.specs.declared.optimised.Optimisation.{Optimisation}
 pub use Rattle.listing.specs.Code.{IsLineAt}
 pub use Rattle.listing.specs.Leaked.{IsLeak}

@@ -1,7 +1,7 @@
 -- What the code before the body hands to it, and what the code behind it takes over: the two halves of a call, so
 -- that they can be proved apart from each other and from the body.
-use Rattle.hepurita.specs.Begun.{IsBegun}
-use Rattle.hepurita.specs.Needs.{Needs}
+use Rattle.compilation.specs.Begun.{IsBegun}
+use Rattle.compilation.specs.Needs.{Needs}
 use Rattle.std.specs.Prelude.{sum}
 use Rattle.std.proofs.Common.{◌≡◌, ℕ, suc, ◌+◌, ◌*◌, ◌%◌, ◌^◌, ◌<◌, ◌≤◌, List, [], ◌∷◌, length, map, Some}
 use Rattle.std.proofs.Common.{false, None}

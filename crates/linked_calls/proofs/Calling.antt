@@ -1,6 +1,6 @@
 -- The whole call: the code before the body, the body, and the code behind it, one after another.
-use Rattle.hepurita.specs.Begun.{IsBegun}
-use Rattle.hepurita.specs.Needs.{Needs}
+use Rattle.compilation.specs.Begun.{IsBegun}
+use Rattle.compilation.specs.Needs.{Needs}
 use Rattle.std.specs.Prelude.{sum, is_some}
 use Rattle.std.proofs.Common.{◌≡◌, ℕ, suc, ◌+◌, ◌-◌, ◌<◌, ◌≤◌, true, List, ◌++◌, map, Option, Some, None, inl}
 use Rattle.std.proofs.Common.{inr, ⊎_elim, refl, sym, ap, ◌∙◌, subst, arith}

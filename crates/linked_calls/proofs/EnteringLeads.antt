@@ -36,9 +36,9 @@ use Rattle.linked_calls.proofs.SavedRegisters.{stored_are_saved, saved_same, sav
 use Rattle.linked_calls.proofs.Standing.{arguments_copier, enter_placed, entering_code}
 use Rattle.linked_calls.proofs.BlankWords.{frame_readied, IsReadied}
 use Rattle.linked_calls.specs.FunctionCode.{frame_code, from_body}
-use Rattle.hepurita.specs.Begun.{IsBegun}
-use Rattle.hepurita.specs.Blank.{IsBlank}
-use Rattle.hepurita.specs.Needs.{Needs}
+use Rattle.compilation.specs.Begun.{IsBegun}
+use Rattle.compilation.specs.Blank.{IsBlank}
+use Rattle.compilation.specs.Needs.{Needs}
 use Rattle.linked_calls.specs.declared.pace.Pace.{Pace}
 
 some_byte : (o : Option ℕ) → is_some o ≡ true → (byte : ℕ) × (o ≡ Some byte)

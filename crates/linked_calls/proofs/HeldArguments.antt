@@ -11,7 +11,7 @@ use Rattle.linked_calls.proofs.Bytes.{numbers_count}
 use Rattle.linked_calls.proofs.WithinParameters.{all_meant, shape_within, values_within}
 use Rattle.linked_calls.specs.FunctionCode.{is_open, is_skipped}
 use Rattle.language.specs.arguments.Within.{AreWithin, greatest_of, HasShape, words_of}
-use Rattle.hepurita.specs.Below.{AgreeBut}
+use Rattle.compilation.specs.Below.{AgreeBut}
 
 module _ (image : Fields) (site : CallSite) (s : State) where
   shape_held : (skipped : Bool) (bytes : ByteMap) (i : ℕ) (slot : Slot) (form : Form)

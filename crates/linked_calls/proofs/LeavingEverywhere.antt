@@ -1,6 +1,6 @@
 -- The code behind the body, all of it: the result, the arrays, the caller's registers, the room wiped, and the last
 -- instruction, which goes back.
-use Rattle.hepurita.specs.Needs.{Needs}
+use Rattle.compilation.specs.Needs.{Needs}
 use Rattle.std.specs.Prelude.{unwrap_or, is_some, IfSome}
 use Rattle.std.specs.Option.{option_map}
 use Rattle.std.proofs.Common.{◌≡◌, ℕ, suc, ◌+◌, ◌*◌, ◌%◌, ◌^◌, ◌<◌, ◌≤◌, ◌==◌, Bool, true, false, if◌then◌else◌}

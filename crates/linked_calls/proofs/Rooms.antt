@@ -1,5 +1,5 @@
 -- The room of a call: where its frame, the saved registers and the arguments lie in it, in numbers.
-use Rattle.hepurita.specs.Needs.{Needs}
+use Rattle.compilation.specs.Needs.{Needs}
 use Rattle.std.proofs.Common.{◌≡◌, ℕ, ◌+◌, ◌-◌, ◌*◌, ◌%◌, ◌^◌, ◌<◌, ◌≤◌, Bool, true, false, List, []}
 use Rattle.std.proofs.Common.{◌∷◌, length, inl, inr, refl, ap, arith, nat_lt, if◌then◌else◌}
 use Rattle.std.proofs.Math.Nat.{max-le}

@@ -1,6 +1,6 @@
 -- The sections' code, one after another, is the code before the body and that behind it.
-use Rattle.hepurita.specs.Blank.{Blank}
-use Rattle.hepurita.specs.Needs.{Needs}
+use Rattle.compilation.specs.Blank.{Blank}
+use Rattle.compilation.specs.Needs.{Needs}
 use Rattle.std.proofs.Common.{◌≡◌, ℕ, ◌+◌, ◌==◌, Bool, true, false, List, [], ◌∷◌, ◌++◌, length, map, refl, sym, ap}
 use Rattle.std.proofs.Common.{◌∙◌, ap₂, arith, if◌then◌else◌, length-append, Option, Some, None}
 use Rattle.std.proofs.lemmas.List.{append_assoc, append-nil}

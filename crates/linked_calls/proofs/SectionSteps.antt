@@ -17,8 +17,8 @@ use Rattle.linked_calls.specs.FunctionCode.{are_few, blanks_code, is_skipped, lo
 use Rattle.linked_calls.specs.Sections.{argument_section, onward_steps, own_tail_sections, partly_sections}
 use Rattle.linked_calls.specs.Sections.{zeroed_sections}
 use Rattle.linked_calls.specs.declared.section.Section.TheVariants.{BlankWord, LoweredStack}
-use Rattle.hepurita.specs.Blank.{Blank}
-use Rattle.hepurita.specs.Needs.{Needs}
+use Rattle.compilation.specs.Blank.{Blank}
+use Rattle.compilation.specs.Needs.{Needs}
 use Rattle.linked_calls.specs.declared.pace.Pace.{Pace}
 use Rattle.linked_calls.specs.declared.pace.Pace.TheVariants.{Fast, Small}
 

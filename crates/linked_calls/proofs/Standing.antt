@@ -1,6 +1,6 @@
 -- Where the parts of a function's words stand in code: the instructions before the body, the body, and those behind
 -- it.
-use Rattle.hepurita.specs.Needs.{Needs}
+use Rattle.compilation.specs.Needs.{Needs}
 use Rattle.std.proofs.Common.{◌≡◌, ℕ, suc, ◌+◌, ◌*◌, ◌≤◌, List, [], ◌∷◌, ◌++◌, length, map, Option, Some, None, refl}
 use Rattle.std.proofs.Common.{sym, subst, arith, length-append}
 use Rattle.std.proofs.lemmas.List.{length-map}

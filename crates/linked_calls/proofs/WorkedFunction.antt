@@ -1,7 +1,7 @@
 -- The function that adds one to its argument, as it is worked out by hand: 30 words, and 26 steps around the 4 of its
 -- body. At a small pace it has 10 words, and a step more: 21 words are those of the tail that functions share.
 use Rattle.std.proofs.Common.{◌≡◌, ℕ, false, [], ◌∷◌, length, Some, refl}
-use Rattle.hepurita.specs.Needs.{Needs}
+use Rattle.compilation.specs.Needs.{Needs}
 use Rattle.linked_calls.proofs.Below.{around_steps, Fields, function_words, P1, room_of, Secret, SingleWord, Uint32}
 use Rattle.linked_calls.specs.FunctionCode.{shared_tail}
 use Rattle.linked_calls.specs.declared.pace.Pace.TheVariants.{Fast, Small}

@@ -5,7 +5,7 @@ use Rattle.language.specs.arguments.Agreement.{Agree}
 use Rattle.language.specs.arguments.PublicResults.{AgreeInPublic}
 use Rattle.linked_calls.specs.Below.{Arg, MachineCode, Fields, goes_on, IsImage, LeadsWithin, moved_to, Observation}
 use Rattle.linked_calls.specs.Below.{observed, params_of, Results, State, Step}
-use Rattle.hepurita.specs.Needs.{Needs}
+use Rattle.compilation.specs.Needs.{Needs}
 use Rattle.hepurita.specs.Compiled.{IsCompiled}
 use Rattle.hepurita.specs.Linked.{StartsAnywhere}
 use Rattle.hepurita.specs.Meant.{Means}

@@ -1,7 +1,7 @@
 -- What a caller has to set up for a call of a function, by the standard calling convention: RISC-V ABIs
 -- Specification, sections "Integer Register Convention" and "Integer Calling Convention" (ilp32). The numbers of the
 -- registers and the distances are written out here, since what they are is promised to C.
-use Rattle.hepurita.specs.Needs.{Needs}
+use Rattle.compilation.specs.Needs.{Needs}
 use Rattle.std.specs.Prelude.{◌≡◌, ◌⊎◌, ℕ, ◌+◌, ◌-◌, ◌*◌, ◌%◌, ◌^◌, ◌<◌, ◌≤◌, nat_lt, List, [], ◌∷◌, length, map}
 use Rattle.std.specs.Prelude.{if◌then◌else◌}
 use Rattle.linked_calls.specs.Below.{Arg, Array, MachineCode, element_bytes, Fields, FixedArray, Form, MutableArray}

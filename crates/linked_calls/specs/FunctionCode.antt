@@ -17,8 +17,8 @@ use Rattle.linked_calls.specs.Below.{element_bytes, Fields, FixedArray, Form, Im
 use Rattle.linked_calls.specs.Below.{Jump, JumpRegister, Kind, load_by, load_code, MutableArray, Or, over}
 use Rattle.linked_calls.specs.Below.{Register, ResultSlot}
 use Rattle.linked_calls.specs.Below.{SingleWord, Slot, store_code, Sub, Uint16, Uint32, Uint8, word_of}
-use Rattle.hepurita.specs.Blank.{Blank}
-use Rattle.hepurita.specs.Needs.{Needs}
+use Rattle.compilation.specs.Blank.{Blank}
+use Rattle.compilation.specs.Needs.{Needs}
 use Rattle.linked_calls.specs.Convention.{link_register, stack_register, saved_registers, argument_registers}
 use Rattle.linked_calls.specs.Convention.{result_register, scratch_registers, whole_blocks}
 use Rattle.linked_calls.specs.Paces.{few_elements, least_for_call, most_blanks, per_round, times}

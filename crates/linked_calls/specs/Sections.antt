@@ -8,8 +8,8 @@ use Rattle.linked_calls.specs.Convention.{link_register, stack_register}
 use Rattle.linked_calls.specs.Convention.{scratch_registers}
 use Rattle.linked_calls.specs.FunctionCode.{above_frame, bound_code, frame_room, room_of, stores_code, loads_code}
 use Rattle.linked_calls.specs.Paces.{few_elements, per_round, times}
-use Rattle.hepurita.specs.Blank.{Blank}
-use Rattle.hepurita.specs.Needs.{Needs}
+use Rattle.compilation.specs.Blank.{Blank}
+use Rattle.compilation.specs.Needs.{Needs}
 use Rattle.linked_calls.specs.FunctionCode.{above_code, added, address_code, are_few, argument_code, blank_code}
 use Rattle.linked_calls.specs.FunctionCode.{clear_registers_code, copied_in_code, copied_out_code, copier_code}
 use Rattle.linked_calls.specs.FunctionCode.{copier_of, copy_out_code, down_code, elements_code, first_argument}

@@ -2,7 +2,7 @@
 
 ghost use Rattle.std.specs.Prelude.{◌≡◌, ◌+◌, ◌++◌, length, map};
 ghost use Rattle.linked_calls.specs.Below.{body_words, Fields, word_of};
-ghost use Rattle.hepurita.specs.Needs.{Needs};
+ghost use Rattle.compilation.specs.Needs.{Needs};
 ghost use Rattle.linked_calls.specs.Callable.{CallsAreLinked};
 ghost use Rattle.linked_calls.specs.Cleared.{RegistersAreCleared};
 ghost use Rattle.linked_calls.specs.Copies.{ArrayIsTaken, ArrayIsHandedBack, CopierCopies, CopiesAreShort};

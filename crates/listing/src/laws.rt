@@ -4,7 +4,7 @@ ghost use Rattle.std.specs.Prelude.{ℕ, ◌≡◌, ◌≢◌, List, ◌++◌, R
 ghost use Rattle.language.specs.arguments.Agreement.{Agree};
 ghost use Rattle.listing.specs.Below.{Arg, Fields, params_of, ProcedureTree, ProgramTree, Stop, Writes, WritesPart};
 ghost use Rattle.hepurita.specs.Answers.{Builds};
-ghost use Rattle.hepurita.specs.declared.optimised.Optimisation.{Optimisation};
+ghost use Rattle.compilation.specs.declared.optimised.Optimisation.{Optimisation};
 ghost use Rattle.listing.specs.declared.fault.LeakFault.{LeakFault};
 ghost use Rattle.listing.specs.Leaked.{Leaks, IsLeak};
 ghost use Rattle.word.specs.declared.profile.Profile.{Profile};

@@ -2,7 +2,7 @@
 use Rattle.std.proofs.Common.{◌≡◌, ℕ, ◌+◌, ◌%◌, ◌^◌, List, [], ◌++◌, length, map, ap, ap₂, ◌∙◌, arith}
 use Rattle.functions.specs.Below.{body_words, code_of, enter_sections, Fields, function_words, Instr, last_sections}
 use Rattle.functions.specs.Below.{leave_sections, word_of}
-use Rattle.hepurita.specs.Needs.{Needs}
+use Rattle.compilation.specs.Needs.{Needs}
 use Rattle.linked_calls.proofs.Distances.{code_is_placed}
 use Rattle.linked_calls.proofs.SectionLemmas.{words_of_sections}
 use Rattle.linked_calls.specs.declared.pace.Pace.{Pace}

@@ -9,8 +9,8 @@ use Rattle.functions.specs.function_text.Names.{is_taken_function}
 use Rattle.functions.specs.declared.function_text.fault.FunctionFault.{FunctionFault}
 use Rattle.functions.specs.declared.function_text.fault.FunctionFault.TheVariants.{Text, Name}
 use Rattle.functions.specs.function_text.private.OfExport.{IsOfExport, NameIsTaken}
-use Rattle.hepurita.specs.Needs.{Needs}
-use Rattle.hepurita.specs.Exact.{frame_needs_for}
+use Rattle.compilation.specs.Needs.{Needs}
+use Rattle.compilation.specs.Exact.{frame_needs_for}
 use Rattle.hepurita.specs.Linked.{StartsAnywhere}
 use Rattle.linked_calls.specs.declared.pace.Pace.{Pace}
 

@@ -10,8 +10,8 @@ use Rattle.functions.specs.function_text.Functions.{Named, FunctionParts, IsFunc
 use Rattle.functions.specs.function_text.HeaderText.{header_text}
 use Rattle.functions.specs.function_text.Texts.{AreTextsOf}
 use Rattle.functions.proofs.function_text_lemmas.Below.{one_export, one_image}
-use Rattle.hepurita.specs.Needs.{Needs}
-use Rattle.hepurita.specs.Exact.{frame_needs_for}
+use Rattle.compilation.specs.Needs.{Needs}
+use Rattle.compilation.specs.Exact.{frame_needs_for}
 use Rattle.linked_calls.specs.declared.pace.Pace.{Pace}
 use Rattle.syntax.specs.Reading.{OneAnswer}
 

@@ -8,11 +8,11 @@ use Rattle.functions.specs.declared.function_text.function.Function.{Function}
 use Rattle.functions.specs.declared.function_text.function.NamedParam.{NamedParam}
 use Rattle.functions.specs.Below.{accepts, Fields, IsCompilation, IsWantOfMemory, Judges, Optimisation, param_of}
 use Rattle.functions.specs.Below.{ParameterTree, Place, ProcedureTree, Profile, ProgramTree, Refusal}
-use Rattle.hepurita.specs.Exact.{frame_needs_for}
+use Rattle.compilation.specs.Exact.{frame_needs_for}
 use Rattle.hepurita.specs.Linked.{StartsAnywhere}
-use Rattle.hepurita.specs.Needs.{Needs, needs_as}
+use Rattle.compilation.specs.Needs.{Needs, needs_as}
 use Rattle.hepurita.specs.Told.{IsRefusalOf}
-use Rattle.hepurita.specs.declared.optimised.Optimisation.TheVariants as codes_made
+use Rattle.compilation.specs.declared.optimised.Optimisation.TheVariants as codes_made
 use Rattle.language.specs.declared.signature.Param.{Param}
 use Rattle.linked_calls.specs.declared.pace.Pace.{Pace}
 use Rattle.linked_calls.specs.declared.pace.Pace.TheVariants as paces

@@ -5,7 +5,7 @@ use Rattle.functions.specs.function_text.Functions.{FunctionParts, IsFunctionOf}
 use Rattle.functions.specs.function_text.HeaderText.{stack_line}
 use Rattle.functions.specs.function_text.Texts.{AreTextsOf}
 use Rattle.functions.specs.declared.function_text.notation.Notation.{Notation}
-use Rattle.hepurita.specs.Needs.{Needs}
+use Rattle.compilation.specs.Needs.{Needs}
 use Rattle.linked_calls.specs.Calls.{CallSite, IsSite, room_base}
 use Rattle.linked_calls.specs.declared.pace.Pace.{Pace}
 use Rattle.rv_machine.specs.Machine.{MachineCode}

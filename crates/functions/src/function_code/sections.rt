@@ -8,7 +8,7 @@ ghost use Rattle.functions.specs.Below.{code_of, copier_of, copier_sections, Fie
 ghost use Rattle.functions.specs.Below.{section_code, stores_code};
 ghost use Rattle.functions.specs.function_code.Above.{IsAbove};
 ghost use Rattle.functions.specs.Below.{argument_section, is_open, is_skipped};
-ghost use Rattle.hepurita.specs.Needs.{needs_as};
+ghost use Rattle.compilation.specs.Needs.{needs_as};
 ghost use Rattle.linked_calls.specs.declared.section.Section.{Section};
 ghost use Rattle.linked_calls.specs.declared.section.Section.TheVariants.{BlankWord, ClearedFrame, FrameBase};
 ghost use Rattle.linked_calls.specs.declared.section.Section.TheVariants.{LoweredStack};

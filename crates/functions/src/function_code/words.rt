@@ -3,7 +3,7 @@
 ghost use Rattle.std.specs.Prelude.{◌≡◌, ◌+◌, ◌%◌, ◌^◌, ◌++◌, length, map, OnOk, IfOk};
 ghost use Rattle.functions.specs.Below.{body_words, code_of, copier_of, function_words, word_of};
 ghost use Rattle.functions.specs.function_code.Above.{IsAbove};
-ghost use Rattle.hepurita.specs.Needs.{needs_as};
+ghost use Rattle.compilation.specs.Needs.{needs_as};
 
 use crate::function_code::pieces::wrapped;
 use crate::function_code::room::{Around, around_body};

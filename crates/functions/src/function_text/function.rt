@@ -9,7 +9,7 @@ ghost use Rattle.functions.specs.function_text.Names.{is_taken_function};
 ghost use Rattle.functions.specs.function_text.private.OfExport.{IsOfExport, NameIsTaken};
 ghost use Rattle.functions.specs.Below.{exported, IsWantOfMemory, parameter_tree, procedure_tree, ProcedureTree};
 ghost use Rattle.functions.specs.Below.{program_tree};
-ghost use Rattle.hepurita.specs.Needs.{needs_as};
+ghost use Rattle.compilation.specs.Needs.{needs_as};
 
 use crate::function_text::fault::FunctionFault;
 use crate::function_text::naming::{Macros, is_taken_function, macros_of, written_name};

@@ -12,7 +12,7 @@ use Rattle.image_reports.specs.Below.{numbers_at, Observation, params_of, Proced
 use Rattle.image_reports.specs.Below.{Results, results_in, RunFault, SingleWord, Slot, slot_end, Stop, Stopped}
 use Rattle.hepurita.specs.Answers.{Builds, IsTheOutcome}
 use Rattle.hepurita.specs.Executed.{Executed, refused, out_of_memory, ran, answer_at}
-use Rattle.hepurita.specs.declared.optimised.Optimisation.{Optimisation}
+use Rattle.compilation.specs.declared.optimised.Optimisation.{Optimisation}
 use Rattle.language.specs.Limits.{most_elements}
 use Rattle.rv_machine.specs.declared.stops.Stop.TheVariants.{Ecall, Break, Illegal, AccessFault, Misaligned, Budget}
 use Rattle.rv_machine.specs.declared.stops.Stop.TheVariants.{RecorderRefused}

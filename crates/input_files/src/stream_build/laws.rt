@@ -2,7 +2,7 @@
 
 ghost use Rattle.std.specs.Prelude.{◌≡◌, ℕ, List, ◌++◌};
 ghost use Rattle.input_files.specs.Below.{GainsPart, IsBuilt, Profile, Writes, WritesPart};
-ghost use Rattle.hepurita.specs.declared.optimised.Optimisation.{Optimisation};
+ghost use Rattle.compilation.specs.declared.optimised.Optimisation.{Optimisation};
 
 use hepurita::builds_agree;
 

@@ -3,7 +3,7 @@ use Rattle.std.specs.Prelude.{◌≡◌, ℕ, true, false, List, map}
 use Rattle.functions.specs.function_text.Functions.{FunctionParts, written_parameter}
 use Rattle.functions.specs.function_text.Names.{is_taken_function}
 use Rattle.functions.specs.Below.{Fields, Place, ProcedureTree}
-use Rattle.hepurita.specs.Needs.{Needs}
+use Rattle.compilation.specs.Needs.{Needs}
 use Rattle.linked_calls.specs.declared.pace.Pace.{Pace}
 
 pub record IsOfExport (name : List ℕ) (export : ProcedureTree) (code : Fields) (needs : Needs) (pace : Pace)

@@ -1,8 +1,8 @@
 use Rattle.std.proofs.Common.{ap, ◌∙◌}
 use Rattle.std.proofs.lemmas.Result.{IfOk-weaker}
 use Rattle.hepurita.specs.Below.{program_tree, RangedProgram, straight_of}
-use Rattle.hepurita.specs.Needs.{needs_as}
-use Rattle.hepurita.specs.Exact.{needs_for, frame_needs_for, code_for, image_for}
+use Rattle.compilation.specs.Needs.{needs_as}
+use Rattle.compilation.specs.Exact.{needs_for, frame_needs_for, code_for, image_for}
 use Rattle.hepurita.proofs.Compilations.{begun, compilation}
 use Rattle.hepurita.proofs.OneImage.{ok_both}
 use Rattle.hepurita.proofs.compiling.code_in.Goals as goal

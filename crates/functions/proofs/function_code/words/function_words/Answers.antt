@@ -1,6 +1,6 @@
 use Rattle.std.proofs.Common.{◌+◌, ◌%◌, ◌^◌, ◌++◌, ℕ, List, length, sym, ap, ◌∙◌}
 use Rattle.functions.specs.Below.{body_words, code_of, copier_of}
-use Rattle.hepurita.specs.Needs.{needs_as}
+use Rattle.compilation.specs.Needs.{needs_as}
 use Rattle.linked_calls.specs.declared.section.Section.{Section}
 use Rattle.functions.proofs.function_code_lemmas.WordLemmas.{all_pushed}
 use Rattle.functions.proofs.function_code.words.function_words.Goals as goal

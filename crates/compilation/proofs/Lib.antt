@@ -1,0 +1,6 @@
+pub mod PassedOn
+pub mod PutArguments
+pub mod FrameValues
+pub mod BlankLemmas
+pub mod AnyFrame
+pub mod Anywhere
