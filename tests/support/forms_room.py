@@ -64,7 +64,7 @@ LOOPS = [
     ("source_eval/src/statements.rt", "repeat", "what the body declares, which is dropped after each iteration"),
     ("streams/src/sink.rt", "put_all", "nothing is kept: the sink takes the bytes that it is given"),
     ("streams/src/source.rt", "get_up_to", "the bytes that the source has, and the limit"),
-    ("syntax/src/lexer.rt", "tokens_of", "the bytes of the text: each token takes some"),
+    ("tokens/src/lexer.rt", "tokens_of", "the bytes of the text: each token takes some"),
     ("syntax/src/parser.rt", "procedures", "the tokens of the text: each part takes some"),
     ("syntax/src/parser/expression.rt", "further", "the tokens of the text: each sign is taken"),
     ("syntax/src/parser/procedure.rt", "parameters", "the tokens of the text: each comma is taken"),

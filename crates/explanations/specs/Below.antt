@@ -33,5 +33,5 @@ pub use Rattle.language.specs.declared.typing.WordType.{WordType}
 pub use Rattle.language.specs.declared.why.Counted.TheVariants.{Bodies, Nodes, Work}
 pub use Rattle.language.specs.declared.why.Share.{Share}
 pub use Rattle.language.specs.declared.why.Why.{Why}
+pub use Rattle.tokens.specs.Spelling.{is_word_byte}
 pub use Rattle.syntax.specs.Reading.{accepted, ParseAnswer, IsRefusedAs, Reads, refused}
-pub use Rattle.syntax.specs.Spelling.{is_word_byte}

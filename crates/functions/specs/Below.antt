@@ -28,7 +28,7 @@ pub use Rattle.codegen.specs.Anywhere.{body_words}
 pub use Rattle.codegen.specs.expression_code.TermCode.{constant_code, load_by}
 pub use Rattle.codegen.specs.image_fields.Fields.{Fields}
 pub use Rattle.codegen.specs.program_logic.Jumps.{over}
-pub use Rattle.syntax.specs.Spelling.{is_name_or_keyword, is_word_byte}
+pub use Rattle.tokens.specs.Spelling.{is_name_or_keyword, is_word_byte}
 pub use Rattle.hepurita.specs.Built.{accepts, fine, IsCompilation, Judges, readable}
 pub use Rattle.compilation.specs.declared.optimised.Optimisation.{Optimisation}
 pub use Rattle.linked_calls.specs.Callable.{CallsAreLinked, IsCallable}

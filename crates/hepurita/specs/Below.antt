@@ -127,6 +127,15 @@ pub use Rattle.codegen.specs.Loaded.{with_argument, with_arguments, with_numbers
 pub use Rattle.codegen.specs.image_fields.Fields.{Fields, IsImage, slot_bytes, slot_end, slots_end, type_in}
 pub use Rattle.codegen.specs.image_fields.Limits.{most_frame_bytes, most_parameters}
 pub use Rattle.codegen.specs.declared.image_fields.slot.Slot.{Slot}
+pub use Rattle.tokens.specs.Lexeme.{Lexeme}
+pub use Rattle.tokens.specs.Spelling.{bad_number, is_blank, is_line_feed, is_word_byte, IsNumber, keyword}
+pub use Rattle.tokens.specs.Spelling.{keyword_text, sign_text, suffix_text, WritesValue}
+pub use Rattle.tokens.specs.Tokens.{at_bad_number, at_end, at_unknown_character, BeginsWith, BeginsWithNone, ends_at}
+pub use Rattle.tokens.specs.Tokens.{Lexes, LexesFrom, next_place, past_space, past_token, place_after}
+pub use Rattle.tokens.specs.declared.lexer.piece.Piece.{Piece}
+pub use Rattle.tokens.specs.declared.lexer.piece.Piece.TheVariants.{Space, Token}
+pub use Rattle.tokens.specs.declared.token.TokenKind.{TokenKind}
+pub use Rattle.tokens.specs.declared.token.TokenKind.TheVariants.{Keyword, Name, Number, Sign}
 pub use Rattle.syntax.specs.Beginning.{a_phrase, a_token, AreByCases, Begins, BeginsParts, by_case, in_case}
 pub use Rattle.syntax.specs.Beginning.{in_phrase, no_part, no_token, past_phrase, Whole, WholeParts}
 pub use Rattle.syntax.specs.Cases.{all, any_amount, any_conversion, any_label, any_length, any_number, any_prefix}
@@ -137,16 +146,7 @@ pub use Rattle.syntax.specs.Grammar.{IsBeginning, IsProgram, ParsesMoreExprs, Pa
 pub use Rattle.syntax.specs.Grammar.{operator_of, ParsesOtherwise, ParsesParameter, ParsesParameters, ParsesProcedure}
 pub use Rattle.syntax.specs.Grammar.{ParsesProcedures, ParsesResultType, ParsesRightSide, ParsesSomeExprs}
 pub use Rattle.syntax.specs.Grammar.{ParsesStatement, ParsesStatements}
-pub use Rattle.syntax.specs.Lexeme.{Lexeme}
 pub use Rattle.syntax.specs.Reading.{accepted, ParseAnswer, IsParseAnswer, by_tokens, IsRefusedAs, OneAnswer, Reads}
 pub use Rattle.syntax.specs.Reading.{refused, too_long}
-pub use Rattle.syntax.specs.Spelling.{bad_number, is_blank, is_line_feed, is_word_byte, IsNumber, keyword}
-pub use Rattle.syntax.specs.Spelling.{keyword_text, sign_text, suffix_text, WritesValue}
-pub use Rattle.syntax.specs.Tokens.{at_bad_number, at_end, at_unknown_character, BeginsWith, BeginsWithNone, ends_at}
-pub use Rattle.syntax.specs.Tokens.{Lexes, LexesFrom, next_place, past_space, past_token, place_after}
-pub use Rattle.syntax.specs.declared.lexer.piece.Piece.{Piece}
-pub use Rattle.syntax.specs.declared.lexer.piece.Piece.TheVariants.{Space, Token}
-pub use Rattle.syntax.specs.declared.token.TokenKind.{TokenKind}
-pub use Rattle.syntax.specs.declared.token.TokenKind.TheVariants.{Keyword, Name, Number, Sign}
 pub use Rattle.source_eval.specs.Answer.{answer, found_params, judged_answer, run_answer}
 pub use Rattle.image.specs.Reading.{AreBytes, Spells}

@@ -3,12 +3,12 @@ use Rattle.std.proofs.Common.{◌≡◌, ℕ, ◌<◌, ◌≤◌, Some, inl, inr
 use Rattle.std.proofs.Common.{false}
 use Rattle.std.specs.Prelude.{nat_lt}
 use Rattle.syntax.specs.Below.{IsWantOfMemory, origin, Plain, Refusal, TextTooLong}
-use Rattle.syntax.specs.Lexeme.{Lexeme}
+use Rattle.tokens.specs.Lexeme.{Lexeme}
 use Rattle.syntax.specs.Reading.{refused, IsParseAnswer, Reads, too_long, by_tokens, OneAnswer, IsRefusedAs}
-use Rattle.syntax.specs.Limits.{source_limit}
-use Rattle.syntax.specs.Tokens.{TokensEnding, Lexes}
+use Rattle.tokens.specs.Limits.{source_limit}
+use Rattle.tokens.specs.Tokens.{TokensEnding, Lexes}
 use Rattle.syntax.proofs.MachineAnswers.{one_answer_for_tokens, lt-true, lt-false}
-use Rattle.syntax.proofs.TokenLaws.{one_list}
+use Rattle.tokens.proofs.TokenLaws.{one_list}
 
 -- a text has one answer
 pub one_answer : OneAnswer

@@ -7,18 +7,18 @@ use Rattle.std.proofs.lemmas.List.Elements.{All-contains, All-from_recursion}
 use Rattle.std.proofs.lemmas.Option.{none-some, same_Some}
 use Rattle.std.specs.Prelude.{nat_le}
 use Rattle.std.specs.List.{AllByRecursion}
-use Rattle.syntax.specs.declared.lexer.piece.Piece.{Piece}
-use Rattle.syntax.specs.declared.lexer.piece.Piece.TheVariants as piece
+use Rattle.tokens.specs.declared.lexer.piece.Piece.{Piece}
+use Rattle.tokens.specs.declared.lexer.piece.Piece.TheVariants as piece
 use Rattle.syntax.specs.Below.{AreAllSmall, ArePlain, AreSmall, AreSmallValues, BlockTree, CallTree, ExprTree, HasForm}
 use Rattle.syntax.specs.Below.{IsArrayLength, IsGrammatical, IsNumberKind, IsPlain, IsSmallReturn, IsSmallRight, Kind}
 use Rattle.syntax.specs.Below.{most_elements, ParameterTree, Place, ProcedureTree, ProgramTree, ReturnTree, RightTree}
 use Rattle.syntax.specs.Below.{StatementTree}
-use Rattle.syntax.specs.declared.token.TokenKind.{TokenKind}
-use Rattle.syntax.specs.declared.token.TokenKind.TheVariants as token
-use Rattle.syntax.specs.declared.token.Keyword.TheVariants.{Uint8 as Uint8Word, Uint16 as Uint16Word}
-use Rattle.syntax.specs.declared.token.Keyword.TheVariants.{Uint32 as Uint32Word}
-use Rattle.syntax.specs.declared.token.Suffix.{Suffix}
-use Rattle.syntax.specs.declared.token.Suffix.TheVariants.{U8}
+use Rattle.tokens.specs.declared.token.TokenKind.{TokenKind}
+use Rattle.tokens.specs.declared.token.TokenKind.TheVariants as token
+use Rattle.tokens.specs.declared.token.Keyword.TheVariants.{Uint8 as Uint8Word, Uint16 as Uint16Word}
+use Rattle.tokens.specs.declared.token.Keyword.TheVariants.{Uint32 as Uint32Word}
+use Rattle.tokens.specs.declared.token.Suffix.{Suffix}
+use Rattle.tokens.specs.declared.token.Suffix.TheVariants.{U8}
 use Rattle.syntax.specs.Grammar.{conversion_of, suffix_kind, amount_of, is_length, length_of, ParsesExprAt, a_number}
 use Rattle.syntax.specs.Grammar.{an_element, in_brackets, a_conversion, a_select, a_prefix, a_rotation, a_binary}
 use Rattle.syntax.specs.Grammar.{ParsesMoreExprs, no_more, one_more, ParsesSomeExprs, some_exprs, ParsesArguments}
@@ -33,11 +33,11 @@ use Rattle.syntax.specs.Grammar.{no_more_parameters, one_more_parameter, ParsesP
 use Rattle.syntax.specs.Grammar.{some_parameters, ParsesResultType, a_void, a_type, ParsesBodyEnd, no_return, a_return}
 use Rattle.syntax.specs.Grammar.{ParsesExported, not_exported, an_export, ParsesProcedure, a_procedure}
 use Rattle.syntax.specs.Grammar.{ParsesProcedures, no_procedure, one_procedure, a_program as a_program_rule}
-use Rattle.syntax.specs.Lexeme.{Lexeme}
+use Rattle.tokens.specs.Lexeme.{Lexeme}
 use Rattle.syntax.specs.Reading.{Reads, by_tokens, IsParseAnswer, a_program, accepted}
-use Rattle.syntax.specs.Spelling as spelling
-use Rattle.syntax.specs.Spelling.{Spells}
-use Rattle.syntax.specs.Tokens.{TokensEnding, LexesFrom, past_space, past_token}
+use Rattle.tokens.specs.Spelling as spelling
+use Rattle.tokens.specs.Spelling.{Spells}
+use Rattle.tokens.specs.Tokens.{TokensEnding, LexesFrom, past_space, past_token}
 
 -- a number that a token writes is a word
 abbrev IsSmallToken : TokenKind → Type 0

@@ -7,14 +7,6 @@ pub mod MachineExpressions
 pub mod MachineComplete
 pub mod MachineAnswers
 pub mod ParserSteps
-pub mod TokenBytes
-pub mod TokenRuns
-pub mod TokenShapes
-pub mod TokenSigns
-pub mod TokenPieces
-pub mod TokenNumbers
-pub mod TokenLaws
-pub mod TokenSteps
 pub mod AnswerLaws
 pub mod StatementSteps
 pub mod GrammarLemmas

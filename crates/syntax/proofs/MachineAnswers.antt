@@ -7,12 +7,12 @@ use Rattle.std.specs.Prelude.{nat_lt}
 use Rattle.std.specs.Option.{option_and_then}
 use Rattle.syntax.specs.Below.{Nesting, ProgramTree}
 use Rattle.syntax.specs.Grammar.{IsProgram, IsBeginning}
-use Rattle.syntax.specs.Lexeme.{Lexeme}
-use Rattle.syntax.specs.Nesting.{Nest, outside, after, after_all, AreWithin, AreWithinFrom}
-use Rattle.syntax.specs.Limits.{nesting_limit}
+use Rattle.tokens.specs.Lexeme.{Lexeme}
+use Rattle.tokens.specs.Nesting.{Nest, outside, after, after_all, AreWithin, AreWithinFrom}
+use Rattle.tokens.specs.Limits.{nesting_limit}
 use Rattle.syntax.specs.Reading.{ParseAnswer, refused, IsParseAnswer, a_program, unexpected, unexpected_end, too_deep}
 use Rattle.syntax.specs.Reading.{bad_token, OneAnswerForTokens, OneProgram}
-use Rattle.syntax.specs.Tokens.{TokensEnding, ends_at, stops}
+use Rattle.tokens.specs.Tokens.{TokensEnding, ends_at, stops}
 use Rattle.syntax.specs.private.Machine.{ParserState, step, at_end, program, run, verdict, token_answer, ending_answer}
 use Rattle.syntax.proofs.MachineSound.{and_then_some}
 use Rattle.syntax.proofs.MachineSound.{begins_by_run, program_by_run}

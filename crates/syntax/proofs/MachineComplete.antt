@@ -15,7 +15,7 @@ use Rattle.syntax.specs.Grammar.{one_more_parameter, ParsesParameters, no_parame
 use Rattle.syntax.specs.Grammar.{a_void, a_type, ParsesBodyEnd, no_return, a_return, ParsesExported, not_exported}
 use Rattle.syntax.specs.Grammar.{an_export, ParsesProcedure, a_procedure, ParsesProcedures, no_procedure, one_procedure}
 use Rattle.syntax.specs.Grammar.{IsProgram, a_program, IsBeginning}
-use Rattle.syntax.specs.Lexeme.{Lexeme}
+use Rattle.tokens.specs.Lexeme.{Lexeme}
 use Rattle.language.specs.Tree as tree
 use Rattle.syntax.specs.declared.parser.statement.Start.{Start}
 use Rattle.syntax.specs.private.Machine.{ParserState, procedures, one, more_parameters, statements, otherwise, fits}
@@ -31,9 +31,9 @@ use Rattle.syntax.proofs.MachineExpressions.{ParserMoves, stays, step-moves, IsS
 use Rattle.syntax.proofs.MachineExpressions.{one-moves, either-moves, other-moves}
 use Rattle.syntax.proofs.MachineExpressions.{label-moves, kind-moves, length-moves, expr-one-moves, arguments-moves}
 use Rattle.syntax.proofs.MachineExpressions.{right-end-moves, values-moves}
-use Rattle.syntax.specs.declared.token.TokenKind.TheVariants as token
-use Rattle.syntax.specs.declared.token.Keyword.TheVariants as keyword
-use Rattle.syntax.specs.declared.token.Sign.TheVariants as sign
+use Rattle.tokens.specs.declared.token.TokenKind.TheVariants as token
+use Rattle.tokens.specs.declared.token.Keyword.TheVariants as keyword
+use Rattle.tokens.specs.declared.token.Sign.TheVariants as sign
 
 mutable-moves : {list ts rest : List Lexeme} {last : ParserState} {label : Label} {mutable : Bool}
     (k : StatementTree → ParserState) → ParsesMutable list mutable ts → Lacks (token.Keyword keyword.Mut) ts

@@ -8,21 +8,21 @@ use Rattle.std.proofs.lemmas.Option.{same_Some}
 use Rattle.std.specs.Prelude.{nat_le}
 use Rattle.std.specs.Option.{option_and_then}
 use Rattle.syntax.specs.Below.{BinaryOperator, ExprTree, Kind, Label, RightTree}
-use Rattle.syntax.specs.declared.token.TokenKind.{TokenKind}
-use Rattle.syntax.specs.declared.token.TokenKind.TheVariants as token
-use Rattle.syntax.specs.declared.token.Sign.TheVariants.{RotateLeft}
+use Rattle.tokens.specs.declared.token.TokenKind.{TokenKind}
+use Rattle.tokens.specs.declared.token.TokenKind.TheVariants as token
+use Rattle.tokens.specs.declared.token.Sign.TheVariants.{RotateLeft}
 use Rattle.syntax.specs.Grammar.{operator_of, prefix_of, conversion_of, level_of, left_level_of, label_of, word_of}
 use Rattle.syntax.specs.Grammar.{length_of, amount_of, ParsesExprAt, a_number, a_true, a_false, a_name, an_element}
 use Rattle.syntax.specs.Grammar.{in_brackets, a_conversion, a_select, a_prefix, a_rotation, a_binary, ParsesMoreExprs}
 use Rattle.syntax.specs.Grammar.{no_more, one_more, ParsesSomeExprs, some_exprs as some_exprs_rule, ParsesArguments}
 use Rattle.syntax.specs.Grammar.{no_arguments, some_arguments, a_call, ParsesRightSide, a_call_value, a_value}
 use Rattle.syntax.specs.Grammar.{ParsesFirstValues, no_values, some_values}
-use Rattle.syntax.specs.Lexeme.{Lexeme}
+use Rattle.tokens.specs.Lexeme.{Lexeme}
 use Rattle.language.specs.Tree as tree
-use Rattle.syntax.specs.declared.parser.operator.OperandStart.{OperandStart}
-use Rattle.syntax.specs.declared.parser.operator.OperandStart.TheVariants.{Name as by_name}
-use Rattle.syntax.specs.declared.parser.operator.Link.{Link}
-use Rattle.syntax.specs.declared.parser.operator.Link.TheVariants.{Operator as by_operator, Rotation as by_rotation}
+use Rattle.tokens.specs.declared.operators.OperandStart.{OperandStart}
+use Rattle.tokens.specs.declared.operators.OperandStart.TheVariants.{Name as by_name}
+use Rattle.tokens.specs.declared.operators.Link.{Link}
+use Rattle.tokens.specs.declared.operators.Link.TheVariants.{Operator as by_operator, Rotation as by_rotation}
 use Rattle.syntax.specs.private.Machine.{ParserState, one, either, a_label, a_kind, a_length, an_amount, expr, more}
 use Rattle.syntax.specs.private.Machine.{more_exprs, fits, begins_of, link_of, link_level, link_left_level}
 use Rattle.syntax.specs.private.Machine.{some_exprs, arguments, operand, linked, right, right_end, first_values}
@@ -31,7 +31,7 @@ use Rattle.syntax.proofs.MachineKinds.{kind-fits, fits-kind, Bars, prefix-begins
 use Rattle.syntax.proofs.MachineKinds.{weak_level, left_levels, unlike}
 use Rattle.syntax.proofs.MachineSteps.{one-step, either-step, label-step, kind-step, length-step, amount-step}
 use Rattle.syntax.proofs.MachineSteps.{sign-step, operand-step, after_exprs}
-use Rattle.syntax.specs.declared.token.Sign.TheVariants as sign
+use Rattle.tokens.specs.declared.token.Sign.TheVariants as sign
 
 -- from a state, before some tokens, the machine comes to another one, before the rest
 pub record ParserMoves (s : ParserState) (ts : List Lexeme) (last : ParserState) (rest : List Lexeme) : Type 0 where

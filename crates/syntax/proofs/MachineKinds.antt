@@ -4,31 +4,31 @@ use Rattle.std.proofs.Common.{inl, inr, Some, None, refl, sym, subst, ap, ap₂,
 use Rattle.std.specs.Str.{bytes_eq}
 use Rattle.std.proofs.lemmas.Bool.{cases_Bool}
 use Rattle.std.proofs.lemmas.Slice.Eq.{bytes_eq-Decides}
-use Rattle.syntax.specs.Spelling.{keyword_text, sign_text, suffix_text}
-use Rattle.syntax.proofs.TokenLaws.{keyword_unique, sign_unique}
-use Rattle.syntax.proofs.TokenNumbers.{suffix_unique}
-use Rattle.syntax.proofs.TokenRuns.{and_true}
+use Rattle.tokens.specs.Spelling.{keyword_text, sign_text, suffix_text}
+use Rattle.tokens.proofs.TokenLaws.{keyword_unique, sign_unique}
+use Rattle.tokens.proofs.TokenNumbers.{suffix_unique}
+use Rattle.tokens.proofs.TokenRuns.{and_true}
 use Rattle.std.specs.Option.{option_map}
-use Rattle.syntax.specs.declared.parser.operator.OperandStart.{OperandStart}
-use Rattle.syntax.specs.declared.parser.operator.OperandStart.TheVariants.{Number as by_number, Truth as by_truth}
-use Rattle.syntax.specs.declared.parser.operator.OperandStart.TheVariants.{Name as by_name, Bracket as by_bracket}
-use Rattle.syntax.specs.declared.parser.operator.OperandStart.TheVariants.{Prefix as by_prefix}
-use Rattle.syntax.specs.declared.parser.operator.OperandStart.TheVariants.{Conversion as by_conversion}
-use Rattle.syntax.specs.declared.parser.operator.OperandStart.TheVariants.{Select as by_select}
-use Rattle.syntax.specs.declared.parser.operator.Link.{Link}
-use Rattle.syntax.specs.declared.parser.operator.Link.TheVariants.{Operator as by_operator, Rotation as by_rotation}
+use Rattle.tokens.specs.declared.operators.OperandStart.{OperandStart}
+use Rattle.tokens.specs.declared.operators.OperandStart.TheVariants.{Number as by_number, Truth as by_truth}
+use Rattle.tokens.specs.declared.operators.OperandStart.TheVariants.{Name as by_name, Bracket as by_bracket}
+use Rattle.tokens.specs.declared.operators.OperandStart.TheVariants.{Prefix as by_prefix}
+use Rattle.tokens.specs.declared.operators.OperandStart.TheVariants.{Conversion as by_conversion}
+use Rattle.tokens.specs.declared.operators.OperandStart.TheVariants.{Select as by_select}
+use Rattle.tokens.specs.declared.operators.Link.{Link}
+use Rattle.tokens.specs.declared.operators.Link.TheVariants.{Operator as by_operator, Rotation as by_rotation}
 use Rattle.syntax.specs.declared.parser.statement.Start.{Start}
 use Rattle.syntax.specs.declared.parser.statement.Start.TheVariants.{Declaration as by_label, Target as by_target}
 use Rattle.syntax.specs.declared.parser.statement.Start.TheVariants.{Conditional as by_if, Loop as by_for}
 use Rattle.syntax.specs.Below.{BinaryOperator, Kind, Label, PrefixOperator}
-use Rattle.syntax.specs.declared.token.TokenKind.{TokenKind}
-use Rattle.syntax.specs.declared.token.TokenKind.TheVariants as token
-use Rattle.syntax.specs.declared.token.Keyword.TheVariants.{True, False, If, For, Select}
-use Rattle.syntax.specs.declared.token.Sign.TheVariants.{RotateLeft, OpenRound, OpenSquare}
+use Rattle.tokens.specs.declared.token.TokenKind.{TokenKind}
+use Rattle.tokens.specs.declared.token.TokenKind.TheVariants as token
+use Rattle.tokens.specs.declared.token.Keyword.TheVariants.{True, False, If, For, Select}
+use Rattle.tokens.specs.declared.token.Sign.TheVariants.{RotateLeft, OpenRound, OpenSquare}
 use Rattle.language.specs.declared.operators.BinaryOperator.TheVariants as operator
 use Rattle.syntax.specs.Grammar.{prefix_of, operator_of, level_of, left_level_of, label_of, conversion_of}
 use Rattle.syntax.specs.private.Machine.{fits, begins_of, link_of, link_level, starts_with}
-use Rattle.syntax.specs.declared.token.Sign.TheVariants as sign
+use Rattle.tokens.specs.declared.token.Sign.TheVariants as sign
 
 -- ---- two kinds fit exactly where they are one
 

@@ -2,10 +2,10 @@
 use Rattle.std.proofs.Common.{◌≡◌, ℕ, List, ◌∷◌, ◌++◌, Option, Some}
 use Rattle.syntax.specs.Below.{BlockTree, ExprTree, Kind, Label, ParameterTree, Place, ProcedureTree, ProgramTree}
 use Rattle.syntax.specs.Below.{ReturnTree, WordType}
-use Rattle.syntax.specs.declared.token.TokenKind.{TokenKind}
+use Rattle.tokens.specs.declared.token.TokenKind.{TokenKind}
 use Rattle.syntax.specs.Grammar.{ParsesExprAt, ParsesMoreExprs, ParsesMoreParameters, ParsesStatements, ParsesOtherwise}
 use Rattle.syntax.specs.Grammar.{ParsesProcedures, label_of, word_of, length_of, amount_of}
-use Rattle.syntax.specs.Lexeme.{Lexeme}
+use Rattle.tokens.specs.Lexeme.{Lexeme}
 use Rattle.syntax.specs.private.Machine.{ParserState, procedures, one, either, a_label, a_kind, a_length, an_amount}
 use Rattle.syntax.specs.private.Machine.{more_parameters, expr, more, more_exprs, statements, otherwise}
 

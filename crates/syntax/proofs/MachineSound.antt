@@ -9,10 +9,10 @@ use Rattle.std.specs.Prelude.{nat_le}
 use Rattle.std.specs.Option.{option_map, option_and_then}
 use Rattle.syntax.specs.Below.{BlockTree, Boolean, ExprTree, first, Label, nothing, origin, ParameterTree, Place}
 use Rattle.syntax.specs.Below.{ProcedureTree, ProgramTree, Public as PublicLabel, ReturnTree, StatementTree, WordType}
-use Rattle.syntax.specs.declared.token.TokenKind.{TokenKind}
-use Rattle.syntax.specs.declared.token.TokenKind.TheVariants as token
-use Rattle.syntax.specs.declared.token.Keyword.TheVariants.{Public, Bool as BoolWord}
-use Rattle.syntax.specs.declared.token.Sign.TheVariants.{CloseRound}
+use Rattle.tokens.specs.declared.token.TokenKind.{TokenKind}
+use Rattle.tokens.specs.declared.token.TokenKind.TheVariants as token
+use Rattle.tokens.specs.declared.token.Keyword.TheVariants.{Public, Bool as BoolWord}
+use Rattle.tokens.specs.declared.token.Sign.TheVariants.{CloseRound}
 use Rattle.syntax.specs.Grammar.{label_of, word_of, length_of, amount_of, ParsesExprAt, a_number, a_true, a_false}
 use Rattle.syntax.specs.Grammar.{a_name, an_element, in_brackets, a_conversion, a_select, a_prefix, a_rotation}
 use Rattle.syntax.specs.Grammar.{a_binary, no_more, one_more, an_array_type, no_statement, one_statement, no_else}
@@ -21,10 +21,10 @@ use Rattle.syntax.specs.Grammar.{a_mutable_array, no_more_parameters, one_more_p
 use Rattle.syntax.specs.Grammar.{no_parameters, some_parameters, ParsesResultType, a_void, a_type, ParsesBodyEnd}
 use Rattle.syntax.specs.Grammar.{no_return, a_return, ParsesExported, not_exported, an_export, ParsesProcedure}
 use Rattle.syntax.specs.Grammar.{a_procedure, no_procedure, one_procedure, IsProgram, a_program, IsBeginning}
-use Rattle.syntax.specs.Lexeme.{Lexeme}
+use Rattle.tokens.specs.Lexeme.{Lexeme}
 use Rattle.language.specs.Tree as tree
-use Rattle.syntax.specs.declared.parser.operator.Link.{Link}
-use Rattle.syntax.specs.declared.parser.operator.Link.TheVariants.{Operator as by_operator, Rotation as by_rotation}
+use Rattle.tokens.specs.declared.operators.Link.{Link}
+use Rattle.tokens.specs.declared.operators.Link.TheVariants.{Operator as by_operator, Rotation as by_rotation}
 use Rattle.syntax.specs.declared.parser.statement.Start.{Start}
 use Rattle.syntax.specs.private.Machine.{ParserState, procedures, one, either, a_label, a_kind, a_length, an_amount}
 use Rattle.syntax.specs.private.Machine.{more_parameters, expr, more, more_exprs, statements, otherwise, fits}
@@ -38,8 +38,8 @@ use Rattle.syntax.proofs.MachineMeaning.{with_other, with_label, with_kind, with
 use Rattle.syntax.proofs.MachineMeaning.{with_expr, with_more, with_exprs, with_statements, with_otherwise}
 use Rattle.syntax.proofs.MachineMeaning.{procedure_of}
 use Rattle.syntax.proofs.SoundStatements.{operand-finishes, whole-finishes, after-else-finishes, statement-finishes}
-use Rattle.syntax.specs.declared.token.Keyword.TheVariants as keyword
-use Rattle.syntax.specs.declared.token.Sign.TheVariants as sign
+use Rattle.tokens.specs.declared.token.Keyword.TheVariants as keyword
+use Rattle.tokens.specs.declared.token.Sign.TheVariants as sign
 
 -- a parameter, read after its label
 labelled-finishes : {p : ProgramTree} {start : Lexeme} {ts : List Lexeme} {label : Label}

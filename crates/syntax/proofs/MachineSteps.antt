@@ -5,19 +5,19 @@ use Rattle.std.proofs.lemmas.Bool.Decides.{nat_tests}
 use Rattle.std.specs.Prelude.{nat_le}
 use Rattle.std.specs.Option.{option_map}
 use Rattle.syntax.specs.Below.{BlockTree, ExprTree, first, Kind, Label, nothing, ParameterTree, StatementTree}
-use Rattle.syntax.specs.declared.parser.operator.OperandStart.{OperandStart}
-use Rattle.syntax.specs.declared.parser.operator.Link.{Link}
+use Rattle.tokens.specs.declared.operators.OperandStart.{OperandStart}
+use Rattle.tokens.specs.declared.operators.Link.{Link}
 use Rattle.syntax.specs.declared.parser.statement.Start.{Start}
-use Rattle.syntax.specs.declared.token.TokenKind.{TokenKind}
+use Rattle.tokens.specs.declared.token.TokenKind.{TokenKind}
 use Rattle.syntax.specs.Grammar.{label_of, word_of, amount_of, length_of}
-use Rattle.syntax.specs.Lexeme.{Lexeme}
+use Rattle.tokens.specs.Lexeme.{Lexeme}
 use Rattle.syntax.specs.private.Machine.{ParserState, fits, one, either, statements, starts_with, statement, started}
 use Rattle.syntax.specs.private.Machine.{a_label, a_kind, a_length, an_amount, expr, more, begins_of, operand, link_of}
 use Rattle.syntax.specs.private.Machine.{link_level, link_left_level, linked, within, joined, step, more_exprs}
 use Rattle.syntax.specs.private.Machine.{more_parameters, parameter, after_else}
-use Rattle.syntax.specs.declared.token.TokenKind.TheVariants as token
-use Rattle.syntax.specs.declared.token.Keyword.TheVariants as keyword
-use Rattle.syntax.specs.declared.token.Sign.TheVariants as sign
+use Rattle.tokens.specs.declared.token.TokenKind.TheVariants as token
+use Rattle.tokens.specs.declared.token.Keyword.TheVariants as keyword
+use Rattle.tokens.specs.declared.token.Sign.TheVariants as sign
 
 pub one-step : (what : TokenKind) (k : Lexeme → ParserState) (t : Lexeme) → fits what t.kind ≡ true
     → step (one what k) t ≡ Some (k t)

@@ -3,17 +3,18 @@ use Rattle.std.proofs.Common.{◌≡◌, Bool, true, false, List, [], ◌∷◌,
 use Rattle.std.proofs.Common.{ap}
 use Rattle.std.specs.Prelude.{if◌then◌else◌}
 use Rattle.syntax.specs.declared.parser.Parser.{Parser}
-use Rattle.syntax.specs.declared.token.Token.{Token}
-use Rattle.syntax.specs.Lexeme.{Lexeme, lexemes}
-use Rattle.syntax.specs.Nesting.{Nest, after}
-use Rattle.syntax.specs.Tokens.{TokensEnding, ending}
+use Rattle.tokens.specs.declared.token.Token.{Token}
+use Rattle.tokens.specs.Lexeme.{Lexeme, lexemes}
+use Rattle.tokens.specs.Nesting.{Nest, after}
+use Rattle.tokens.specs.Tokens.{TokensEnding, ending}
 use Rattle.syntax.specs.private.Machine.{ParserState, procedures, more_exprs, more_parameters, otherwise}
 use Rattle.syntax.specs.private.Machine.{step, at_end, procedure, verdict, ending_answer}
 use Rattle.syntax.specs.private.Machine.{token_answer}
-use Rattle.syntax.specs.private.ParserViews.{ahead, nest}
+use Rattle.syntax.specs.private.ParserViews.{ahead}
+use Rattle.tokens.specs.Nested.{nest}
 use Rattle.syntax.specs.Below.{BlockTree, ExprTree, ParameterTree, ProcedureTree}
 use Rattle.syntax.proofs.MachineSteps.{after_exprs, after_parameters, before_else}
-use Rattle.syntax.specs.declared.token.TokenKind.{TokenKind}
+use Rattle.tokens.specs.declared.token.TokenKind.{TokenKind}
 
 -- the one of two states that a test picks, where both come of it
 pub either_way : (b : Bool) (k : Bool → ParserState) → (if b then k true else k false) ≡ k b

@@ -2,9 +2,9 @@
 use Rattle.std.proofs.Common.{◌≡◌, ℕ, Bool, true, false, List, ◌∷◌, Option, Some}
 use Rattle.syntax.specs.Below.{BlockTree, CallTree, ExprTree, first, Kind, Label, nothing, ProgramTree, RightTree}
 use Rattle.syntax.specs.Below.{StatementTree}
-use Rattle.syntax.specs.declared.token.TokenKind.{TokenKind}
-use Rattle.syntax.specs.declared.token.TokenKind.TheVariants as token
-use Rattle.syntax.specs.declared.token.Keyword.TheVariants.{If, Else}
+use Rattle.tokens.specs.declared.token.TokenKind.{TokenKind}
+use Rattle.tokens.specs.declared.token.TokenKind.TheVariants as token
+use Rattle.tokens.specs.declared.token.Keyword.TheVariants.{If, Else}
 use Rattle.syntax.specs.Grammar.{label_of, word_of, ParsesExprAt, a_number, a_true, a_false, a_name, an_element}
 use Rattle.syntax.specs.Grammar.{in_brackets, a_conversion, a_select, a_prefix, ParsesSomeExprs}
 use Rattle.syntax.specs.Grammar.{some_exprs as some_exprs_rule, no_arguments, some_arguments, ParsesCall, a_call}
@@ -13,14 +13,14 @@ use Rattle.syntax.specs.Grammar.{an_array_type, ParsesFirstValues, no_values, so
 use Rattle.syntax.specs.Grammar.{a_declaration, an_array, an_assignment, an_element_assignment, a_call_statement}
 use Rattle.syntax.specs.Grammar.{a_conditional_statement, a_loop, ParsesConditional, a_conditional, a_block}
 use Rattle.syntax.specs.Grammar.{ParsesOtherwise, an_else, an_else_if}
-use Rattle.syntax.specs.Lexeme.{Lexeme}
+use Rattle.tokens.specs.Lexeme.{Lexeme}
 use Rattle.language.specs.Tree as tree
-use Rattle.syntax.specs.declared.parser.operator.OperandStart.{OperandStart}
-use Rattle.syntax.specs.declared.parser.operator.OperandStart.TheVariants.{Number as by_number, Truth as by_truth}
-use Rattle.syntax.specs.declared.parser.operator.OperandStart.TheVariants.{Name as by_name, Bracket as by_bracket}
-use Rattle.syntax.specs.declared.parser.operator.OperandStart.TheVariants.{Prefix as by_prefix}
-use Rattle.syntax.specs.declared.parser.operator.OperandStart.TheVariants.{Conversion as by_conversion}
-use Rattle.syntax.specs.declared.parser.operator.OperandStart.TheVariants.{Select as by_select}
+use Rattle.tokens.specs.declared.operators.OperandStart.{OperandStart}
+use Rattle.tokens.specs.declared.operators.OperandStart.TheVariants.{Number as by_number, Truth as by_truth}
+use Rattle.tokens.specs.declared.operators.OperandStart.TheVariants.{Name as by_name, Bracket as by_bracket}
+use Rattle.tokens.specs.declared.operators.OperandStart.TheVariants.{Prefix as by_prefix}
+use Rattle.tokens.specs.declared.operators.OperandStart.TheVariants.{Conversion as by_conversion}
+use Rattle.tokens.specs.declared.operators.OperandStart.TheVariants.{Select as by_select}
 use Rattle.syntax.specs.declared.parser.statement.Start.{Start}
 use Rattle.syntax.specs.declared.parser.statement.Start.TheVariants.{Declaration as by_label, Target as by_target}
 use Rattle.syntax.specs.declared.parser.statement.Start.TheVariants.{Conditional as by_if, Loop as by_for}
@@ -31,7 +31,7 @@ use Rattle.syntax.specs.private.Machine.{after_else, statement}
 use Rattle.syntax.proofs.MachineKinds.{BeginsBy, StartsBy}
 use Rattle.syntax.proofs.MachineMeaning.{Finishes, ReadsThen, with_token, with_either, with_other, with_kind}
 use Rattle.syntax.proofs.MachineMeaning.{with_length, with_expr, with_more, with_exprs, with_statements, with_otherwise}
-use Rattle.syntax.specs.declared.token.Sign.TheVariants as sign
+use Rattle.tokens.specs.declared.token.Sign.TheVariants as sign
 
 -- an operand, read after its first token, is an expression at each level
 abbrev pub AtEachLevel : Lexeme → List Lexeme → ExprTree → List Lexeme → Type 0

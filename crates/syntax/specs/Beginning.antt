@@ -3,7 +3,7 @@
 use Rattle.std.specs.Prelude.{List, [], ◌∷◌, ◌↔◌}
 use Rattle.syntax.specs.Cases.{Single, IsOne, Phrase, procedures, CasePart, one, all, Case}
 use Rattle.syntax.specs.Grammar.{IsProgram, IsBeginning}
-use Rattle.syntax.specs.Lexeme.{Lexeme}
+use Rattle.tokens.specs.Lexeme.{Lexeme}
 use Rattle.syntax.specs.Below.{ProgramTree}
 
 mutual

@@ -14,8 +14,7 @@ pub use Rattle.language.specs.declared.operators.BinaryOperator.{BinaryOperator}
 pub use Rattle.language.specs.declared.operators.PrefixOperator.{PrefixOperator}
 pub use Rattle.language.specs.declared.refusal.Refusal.{Refusal}
 pub use Rattle.language.specs.declared.rule.Rule.{Rule}
-pub use Rattle.language.specs.declared.rule.Rule.TheVariants.{BadNumber, Nesting, TextTooLong, UnexpectedToken}
-pub use Rattle.language.specs.declared.rule.Rule.TheVariants.{UnknownCharacter}
+pub use Rattle.language.specs.declared.rule.Rule.TheVariants.{Nesting, TextTooLong, UnexpectedToken}
 pub use Rattle.language.specs.declared.signature.Form.TheVariants.{FixedArray, MutableArray, SingleWord}
 pub use Rattle.language.specs.declared.signature.Kind.{Kind}
 pub use Rattle.language.specs.declared.signature.Kind.TheVariants.{Boolean, Uint16, Uint32, Uint8}

@@ -2,18 +2,18 @@
 -- cases with their trees, under the same names.
 use Rattle.std.specs.Prelude.{◌≡◌, ℕ, ◌+◌, ◌≤◌, List, [], ◌∷◌, Option, Some}
 use Rattle.syntax.specs.Below.{BinaryOperator, Kind, Label, PrefixOperator}
-use Rattle.syntax.specs.declared.token.Keyword.{Keyword}
-use Rattle.syntax.specs.declared.token.Keyword.TheVariants.{Export, Void, Mut, Uint32, True, False, If, Else, For}
-use Rattle.syntax.specs.declared.token.Keyword.TheVariants.{From, To, Return, Select}
-use Rattle.syntax.specs.declared.token.Sign.{Sign}
-use Rattle.syntax.specs.declared.token.Sign.TheVariants.{RotateLeft, OpenRound, CloseRound, OpenCurly, CloseCurly}
-use Rattle.syntax.specs.declared.token.Sign.TheVariants.{OpenSquare, CloseSquare, Comma, Semicolon, Assign}
-use Rattle.syntax.specs.declared.token.Suffix.{Suffix}
-use Rattle.syntax.specs.declared.token.TokenKind.{TokenKind}
-use Rattle.syntax.specs.declared.token.TokenKind.TheVariants as token
+use Rattle.tokens.specs.declared.token.Keyword.{Keyword}
+use Rattle.tokens.specs.declared.token.Keyword.TheVariants.{Export, Void, Mut, Uint32, True, False, If, Else, For}
+use Rattle.tokens.specs.declared.token.Keyword.TheVariants.{From, To, Return, Select}
+use Rattle.tokens.specs.declared.token.Sign.{Sign}
+use Rattle.tokens.specs.declared.token.Sign.TheVariants.{RotateLeft, OpenRound, CloseRound, OpenCurly, CloseCurly}
+use Rattle.tokens.specs.declared.token.Sign.TheVariants.{OpenSquare, CloseSquare, Comma, Semicolon, Assign}
+use Rattle.tokens.specs.declared.token.Suffix.{Suffix}
+use Rattle.tokens.specs.declared.token.TokenKind.{TokenKind}
+use Rattle.tokens.specs.declared.token.TokenKind.TheVariants as token
 use Rattle.syntax.specs.Grammar.{prefix_of, operator_of, level_of, left_level_of, rotation_level, prefix_level}
 use Rattle.syntax.specs.Grammar.{label_of, word_of, conversion_of, amount_of, length_of}
-use Rattle.syntax.specs.Lexeme.{Lexeme}
+use Rattle.tokens.specs.Lexeme.{Lexeme}
 
 -- what one token may have to be
 pub data Single : Type 0 where

@@ -11,27 +11,20 @@ use Rattle.syntax.specs.Below.{ParameterTree, Place, prefix, PrefixOperator, Pro
 use Rattle.syntax.specs.Below.{Public as PublicLabel, ReturnTree, RightTree, rotate, Secret as SecretLabel, select}
 use Rattle.syntax.specs.Below.{SingleWord, StatementTree, truth, Uint16 as Uint16Kind, Uint32 as Uint32Kind}
 use Rattle.syntax.specs.Below.{Uint8 as Uint8Kind, WordType}
-use Rattle.syntax.specs.declared.token.TokenKind.{TokenKind}
-use Rattle.syntax.specs.declared.token.TokenKind.TheVariants as token
-use Rattle.syntax.specs.declared.token.Keyword.TheVariants.{Export, Void, Public, Secret, Mut, Bool as BoolWord}
-use Rattle.syntax.specs.declared.token.Keyword.TheVariants.{Uint8, Uint16, Uint32, True, False, If, Else, For, From}
-use Rattle.syntax.specs.declared.token.Keyword.TheVariants.{To, Return, Select}
-use Rattle.syntax.specs.declared.token.Sign.{Sign}
-use Rattle.syntax.specs.declared.token.Sign.TheVariants.{RotateLeft, ShiftLeft, ShiftRight, AtMost, AtLeast, Equals}
-use Rattle.syntax.specs.declared.token.Sign.TheVariants.{Differs, AndAlso, OrElse, OpenRound, CloseRound, OpenCurly}
-use Rattle.syntax.specs.declared.token.Sign.TheVariants.{CloseCurly, OpenSquare, CloseSquare, Comma, Semicolon}
-use Rattle.syntax.specs.declared.token.Sign.TheVariants.{Assign, Plus, Minus, Star, Slash, Percent, Ampersand, Bar}
-use Rattle.syntax.specs.declared.token.Sign.TheVariants.{Caret, Tilde, Bang, Below, Above}
-use Rattle.syntax.specs.declared.token.Suffix.{Suffix}
-use Rattle.syntax.specs.declared.token.Suffix.TheVariants.{U8, U16, U32}
-use Rattle.language.specs.declared.operators.BinaryOperator.TheVariants.{LogicalOr, LogicalAnd, Equal, Unequal, Less}
-use Rattle.language.specs.declared.operators.BinaryOperator.TheVariants.{LessOrEqual}
-use Rattle.language.specs.declared.operators.BinaryOperator.TheVariants.{Greater, GreaterOrEqual, BitOr, BitXor, BitAnd}
-use Rattle.language.specs.declared.operators.BinaryOperator.TheVariants.{ShiftLeft as ShiftedLeft}
-use Rattle.language.specs.declared.operators.BinaryOperator.TheVariants.{ShiftRight as ShiftedRight, Add, Subtract}
-use Rattle.language.specs.declared.operators.BinaryOperator.TheVariants.{Multiply, Divide, Remainder, HighProduct}
-use Rattle.language.specs.declared.operators.PrefixOperator.TheVariants.{Not, Complement, Negate}
-use Rattle.syntax.specs.Lexeme.{Lexeme}
+use Rattle.tokens.specs.declared.token.TokenKind.{TokenKind}
+use Rattle.tokens.specs.declared.token.TokenKind.TheVariants as token
+use Rattle.tokens.specs.declared.token.Keyword.TheVariants.{Export, Void, Public, Secret, Mut, Bool as BoolWord}
+use Rattle.tokens.specs.declared.token.Keyword.TheVariants.{Uint8, Uint16, Uint32, True, False, If, Else, For, From}
+use Rattle.tokens.specs.declared.token.Keyword.TheVariants.{To, Return, Select}
+use Rattle.tokens.specs.declared.token.Sign.{Sign}
+use Rattle.tokens.specs.declared.token.Sign.TheVariants.{RotateLeft}
+use Rattle.tokens.specs.declared.token.Sign.TheVariants.{OpenRound, CloseRound, OpenCurly}
+use Rattle.tokens.specs.declared.token.Sign.TheVariants.{CloseCurly, OpenSquare, CloseSquare, Comma, Semicolon}
+use Rattle.tokens.specs.declared.token.Sign.TheVariants.{Assign}
+use Rattle.tokens.specs.declared.token.Suffix.{Suffix}
+use Rattle.tokens.specs.Lexeme.{Lexeme}
+pub use Rattle.tokens.specs.Operators.{prefix_of, operator_of, level_of, left_level_of, rotation_level, prefix_level}
+pub use Rattle.tokens.specs.Operators.{conversion_of, suffix_kind}
 
 -- the token is of this kind
 abbrev pub Is : TokenKind → Lexeme → Type 0
@@ -40,75 +33,6 @@ Is kind t = t.kind ≡ kind
 -- the token is this sign
 abbrev pub IsSign : Sign → Lexeme → Type 0
 IsSign sign t = t.kind ≡ token.Sign sign
-
--- the operator that a sign before an operand is
-abbrev pub prefix_of : TokenKind → Option PrefixOperator
-prefix_of (token.Sign Bang) = Some Not
-prefix_of (token.Sign Tilde) = Some Complement
-prefix_of (token.Sign Minus) = Some Negate
-prefix_of _ = None
-
--- the operator that a sign between two operands is
-abbrev pub operator_of : TokenKind → Option BinaryOperator
-operator_of (token.Sign OrElse) = Some LogicalOr
-operator_of (token.Sign AndAlso) = Some LogicalAnd
-operator_of (token.Sign Equals) = Some Equal
-operator_of (token.Sign Differs) = Some Unequal
-operator_of (token.Sign Below) = Some Less
-operator_of (token.Sign AtMost) = Some LessOrEqual
-operator_of (token.Sign Above) = Some Greater
-operator_of (token.Sign AtLeast) = Some GreaterOrEqual
-operator_of (token.Sign Bar) = Some BitOr
-operator_of (token.Sign Caret) = Some BitXor
-operator_of (token.Sign Ampersand) = Some BitAnd
-operator_of (token.Sign ShiftLeft) = Some ShiftedLeft
-operator_of (token.Sign ShiftRight) = Some ShiftedRight
-operator_of (token.Sign Plus) = Some Add
-operator_of (token.Sign Minus) = Some Subtract
-operator_of (token.Sign Star) = Some Multiply
-operator_of (token.Sign Slash) = Some Divide
-operator_of (token.Sign Percent) = Some Remainder
-operator_of _ = None
-
--- how strongly an operator binds, from 1 to 9; signs before an operand bind at 10. One operator has no sign: it would
--- bind as other products do.
-abbrev pub level_of : BinaryOperator → ℕ
-level_of LogicalOr = 1
-level_of LogicalAnd = 2
-level_of Equal = 3
-level_of Unequal = 3
-level_of Less = 3
-level_of LessOrEqual = 3
-level_of Greater = 3
-level_of GreaterOrEqual = 3
-level_of BitOr = 4
-level_of BitXor = 5
-level_of BitAnd = 6
-level_of ShiftedLeft = 7
-level_of ShiftedRight = 7
-level_of Add = 8
-level_of Subtract = 8
-level_of Multiply = 9
-level_of Divide = 9
-level_of Remainder = 9
-level_of HighProduct = 9
-
--- a rotation binds as the shifts do
-abbrev pub rotation_level : ℕ
-rotation_level = 7
-
-abbrev pub prefix_level : ℕ
-prefix_level = 10
-
--- how strongly the left operand has to bind: operators of one level group to the left, but comparisons do not group
-abbrev pub left_level_of : BinaryOperator → ℕ
-left_level_of Equal = 4
-left_level_of Unequal = 4
-left_level_of Less = 4
-left_level_of LessOrEqual = 4
-left_level_of Greater = 4
-left_level_of GreaterOrEqual = 4
-left_level_of operator = level_of operator
 
 -- the label that a keyword names
 abbrev pub label_of : TokenKind → Option Label
@@ -123,20 +47,6 @@ word_of (token.Keyword Uint8) = Some Uint8Kind
 word_of (token.Keyword Uint16) = Some Uint16Kind
 word_of (token.Keyword Uint32) = Some Uint32Kind
 word_of _ = None
-
--- the kind of number that a keyword converts to
-abbrev pub conversion_of : TokenKind → Option Kind
-conversion_of (token.Keyword Uint8) = Some Uint8Kind
-conversion_of (token.Keyword Uint16) = Some Uint16Kind
-conversion_of (token.Keyword Uint32) = Some Uint32Kind
-conversion_of _ = None
-
--- the kind of number that a suffix names
-abbrev pub suffix_kind : Option Suffix → Kind
-suffix_kind (Some U8) = Uint8Kind
-suffix_kind (Some U16) = Uint16Kind
-suffix_kind (Some U32) = Uint32Kind
-suffix_kind None = Uint32Kind
 
 -- the number that a token without a suffix writes
 abbrev pub amount_of : TokenKind → Option ℕ

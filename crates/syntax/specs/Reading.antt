@@ -3,11 +3,11 @@ use Rattle.std.specs.Prelude.{◌≡◌, ℕ, ◌<◌, ◌≤◌, List, [], ◌�
 use Rattle.syntax.specs.Below.{IsWantOfMemory, Nesting, origin, Place, Plain, ProgramTree, Refusal, Rule, TextTooLong}
 use Rattle.syntax.specs.Below.{UnexpectedToken}
 use Rattle.syntax.specs.Grammar.{IsProgram, IsBeginning}
-use Rattle.syntax.specs.Lexeme.{Lexeme}
-use Rattle.syntax.specs.Nesting.{outside, after, after_all, AreWithin}
-use Rattle.syntax.specs.Limits.{source_limit}
-use Rattle.syntax.specs.Limits.{nesting_limit}
-use Rattle.syntax.specs.Tokens.{TokensEnding, ends_at, stops, Lexes}
+use Rattle.tokens.specs.Lexeme.{Lexeme}
+use Rattle.tokens.specs.Nesting.{outside, after, after_all, AreWithin}
+use Rattle.tokens.specs.Limits.{source_limit}
+use Rattle.tokens.specs.Limits.{nesting_limit}
+use Rattle.tokens.specs.Tokens.{TokensEnding, ends_at, stops, Lexes}
 
 pub data ParseAnswer : Type 0 where
   accepted : (tree : ProgramTree) → ParseAnswer

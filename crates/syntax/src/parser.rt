@@ -1,24 +1,22 @@
 ghost use Rattle.std.specs.Prelude.{◌≡◌, ℕ, ◌<◌, List, length, Contains, IfOk, IfErr, IsErrAnd, MatchResult};
 ghost use Rattle.syntax.specs.Below.{IsGrammatical, origin, Plain, ProcedureTree, program_tree, ProgramTree};
-ghost use Rattle.syntax.specs.Limits.{source_limit};
-ghost use Rattle.syntax.specs.Lexeme.{lexemes};
+ghost use Rattle.tokens.specs.Limits.{source_limit};
+ghost use Rattle.tokens.specs.Lexeme.{lexemes};
 ghost use Rattle.syntax.specs.private.Machine.{program as program_state};
 ghost use Rattle.syntax.specs.private.ParserViews.{ahead, FaultIs};
 ghost use Rattle.syntax.specs.Reading.{IsParseAnswer, Reads, IsRefusedAs, OneProgram, OneAnswer, accepted, refused};
-ghost use Rattle.syntax.specs.Tokens.{ending};
+ghost use Rattle.tokens.specs.Tokens.{ending};
 
 mod declaration;
 mod expression;
-mod operator;
 mod procedure;
 mod right_side;
 mod statement;
 mod step;
 
-use crate::lexer::lex;
-use crate::nesting::Nesting;
-use crate::{ListEnd, Place, Procedure, Program, Refusal, Rule, Token};
+use crate::{ListEnd, Place, Procedure, Program, Refusal, Rule, Token, lex};
 use std::alloc::{AllocError, AllocFailed, Global};
+use tokens::Nesting;
 
 /// Why the parser stops.
 #[derive(Clone, Copy)]

@@ -3,9 +3,9 @@ use Rattle.std.specs.Prelude.{ℕ, ◌<◌, ◌==◌, Bool, true, false, List, [
 use Rattle.std.specs.List.{find, list_all, list_any, slice_split}
 use Rattle.std.specs.Option.{option_map}
 use Rattle.std.specs.Str.{bytes_eq}
-use Rattle.syntax.specs.Lexeme.{Lexeme}
-use Rattle.syntax.specs.Limits.{source_limit}
-use Rattle.syntax.specs.Tokens.{TokensEnding, Lexes}
+use Rattle.tokens.specs.Lexeme.{Lexeme}
+use Rattle.tokens.specs.Limits.{source_limit}
+use Rattle.tokens.specs.Tokens.{TokensEnding, Lexes}
 use Rattle.explanations.specs.habits.Spots.{Spot, spot_around, statement_start}
 use Rattle.explanations.specs.declared.habits.spots.Region.{Region}
 use Rattle.explanations.specs.declared.habits.spots.Region.TheVariants.{Outside, Body, Brackets}

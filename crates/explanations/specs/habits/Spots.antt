@@ -2,7 +2,7 @@
 use Rattle.std.specs.Prelude.{ℕ, nat_lt, nat_eq, Bool, ◌&&◌, ◌||◌, if◌then◌else◌, List, [], length, codes}
 use Rattle.std.specs.List.{filter, fold}
 use Rattle.std.specs.Str.{bytes_eq}
-use Rattle.syntax.specs.Lexeme.{Lexeme}
+use Rattle.tokens.specs.Lexeme.{Lexeme}
 use Rattle.explanations.specs.declared.habits.spots.Region.{Region}
 use Rattle.explanations.specs.declared.habits.spots.Region.TheVariants.{Outside, Body, Brackets}
 use Rattle.explanations.specs.declared.habits.spots.Spot.{Spot as CodeSpot}

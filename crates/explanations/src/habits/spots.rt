@@ -2,7 +2,7 @@
 
 ghost use Rattle.std.specs.Prelude.{◌≡◌, length};
 ghost use Rattle.std.specs.List.{filter, fold};
-ghost use Rattle.syntax.specs.Lexeme.{lexeme, lexemes};
+ghost use Rattle.tokens.specs.Lexeme.{lexeme, lexemes};
 ghost use Rattle.explanations.specs.habits.Spots.{after_token, count_before, ends_statement, is_before, nowhere};
 ghost use Rattle.explanations.specs.habits.Spots.{region_at, spot_around, spot_of, statement_start};
 

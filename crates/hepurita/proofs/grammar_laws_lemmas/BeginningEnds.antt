@@ -2,15 +2,15 @@
 use Rattle.std.proofs.Common.{◌≡◌, ℕ, List, [], ◌∷◌, ◌++◌, Some, None, refl, sym, subst, append_assoc}
 use Rattle.language.specs.declared.signature.Kind.TheVariants as kind
 use Rattle.language.specs.declared.signature.Label.TheVariants as label
-use Rattle.syntax.specs.declared.token.Keyword.{Keyword}
-use Rattle.syntax.specs.declared.token.Keyword.TheVariants as keyword
-use Rattle.syntax.specs.declared.token.Sign.{Sign}
-use Rattle.syntax.specs.declared.token.Sign.TheVariants as sign
+use Rattle.tokens.specs.declared.token.Keyword.{Keyword}
+use Rattle.tokens.specs.declared.token.Keyword.TheVariants as keyword
+use Rattle.tokens.specs.declared.token.Sign.{Sign}
+use Rattle.tokens.specs.declared.token.Sign.TheVariants as sign
 use Rattle.hepurita.specs.Below.{a_phrase, a_token, all, any_amount, any_conversion, any_label, any_length}
 use Rattle.hepurita.specs.Below.{any_number, any_prefix, any_word, Begins, BeginsParts, by_case, Case, in_case}
 use Rattle.hepurita.specs.Below.{in_phrase, IsOne, Lexeme, no_part, no_token, of_kind, one, origin}
 use Rattle.hepurita.specs.Below.{CasePart, past_phrase, Phrase, Single, TokenKind, Whole, WholeParts}
-use Rattle.syntax.specs.declared.token.TokenKind.TheVariants as token
+use Rattle.tokens.specs.declared.token.TokenKind.TheVariants as token
 use Rattle.language.specs.declared.operators.PrefixOperator.TheVariants as prefix
 use Rattle.syntax.specs.Beginning.{past_token}
 use Rattle.syntax.specs.Cases as cases

@@ -5,17 +5,17 @@ use Rattle.std.proofs.lemmas.Bool.{cases_lt}
 use Rattle.std.specs.Prelude.{codes}
 use Rattle.std.specs.List.{position_or_len, starts_with}
 use Rattle.hepurita.specs.Below.{ParseAnswer, at_bad_number, at_end, at_unknown_character, BeginsWith}
-use Rattle.syntax.specs.declared.lexer.piece.Piece.TheVariants.{BadNumber}
+use Rattle.tokens.specs.declared.lexer.piece.Piece.TheVariants.{BadNumber}
 use Rattle.hepurita.specs.Below.{BeginsWithNone, by_tokens, ends_at, is_blank, is_line_feed, is_word_byte}
-use Rattle.syntax.specs.Tokens.{TokensEnding}
+use Rattle.tokens.specs.Tokens.{TokensEnding}
 use Rattle.hepurita.specs.Below.{Lexeme, Lexes, LexesFrom, origin, past_space, past_token, Piece, Place, place_after}
 use Rattle.hepurita.specs.Below.{Reads, refused, Sign as SignToken, sign_text, Space, TextTooLong, Token}
-use Rattle.syntax.specs.Tokens.{stops}
+use Rattle.tokens.specs.Tokens.{stops}
 use Rattle.hepurita.specs.Below.{too_long, UnknownCharacter}
 use Rattle.language.specs.declared.rule.Rule.TheVariants.{BadNumber as BadNumberRule}
-use Rattle.syntax.specs.Limits.{source_limit}
-use Rattle.syntax.specs.Nesting.{outside}
-use Rattle.syntax.specs.private.Splitting.{is_no_word_byte}
+use Rattle.tokens.specs.Limits.{source_limit}
+use Rattle.tokens.specs.Nesting.{outside}
+use Rattle.tokens.specs.private.Splitting.{is_no_word_byte}
 use Rattle.syntax.specs.private.Machine.{program, verdict}
 use Rattle.hepurita.proofs.grammar_laws_lemmas.Below.{answers, OnlySigns, blank_piece, comment_piece, signs}
 use Rattle.hepurita.proofs.grammar_laws_lemmas.Below.{word_piece, word_some, run_at, none_from_all, rest_shorter}

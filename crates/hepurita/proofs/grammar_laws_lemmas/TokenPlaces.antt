@@ -4,7 +4,7 @@ use Rattle.std.specs.List.{All, AllByRecursion}
 use Rattle.std.proofs.lemmas.List.{take_at}
 use Rattle.std.proofs.lemmas.List.Elements.{All-from_recursion}
 use Rattle.hepurita.specs.Below.{Lexeme, Lexes, LexesFrom, next_place, origin, past_space, past_token, Place}
-use Rattle.syntax.specs.Tokens.{TokensEnding}
+use Rattle.tokens.specs.Tokens.{TokensEnding}
 use Rattle.hepurita.specs.Below.{place_after}
 
 -- the token's place is that after the bytes before it

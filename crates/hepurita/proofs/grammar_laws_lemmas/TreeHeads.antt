@@ -2,7 +2,7 @@
 use Rattle.std.proofs.Common.{◌≡◌, ℕ, ◌+◌, ◌<◌, ◌≤◌, List, refl, arith}
 use Rattle.std.proofs.lemmas.Bool.Decides.{nat_tests}
 use Rattle.hepurita.specs.Below.{accepted, IsParseAnswer, by_tokens, Lexeme, LexesFrom, past_space, past_token}
-use Rattle.syntax.specs.Tokens.{TokensEnding}
+use Rattle.tokens.specs.Tokens.{TokensEnding}
 use Rattle.hepurita.specs.Below.{Place, ProgramTree, Reads}
 use Rattle.syntax.specs.Reading.{a_program}
 use Rattle.hepurita.proofs.grammar_laws_lemmas.Below.{spelled_some}

@@ -11,13 +11,13 @@ use Rattle.std.proofs.lemmas.Bool.{cases_lt}
 use Rattle.std.proofs.lemmas.List.{take-append-drop}
 use Rattle.std.proofs.lemmas.Slice.Eq.{bytes_eq-Decides}
 use Rattle.hepurita.specs.Below.{bad_number, is_word_byte, IsNumber, keyword, Keyword as KeywordToken}
-use Rattle.syntax.specs.declared.lexer.piece.Piece.TheVariants.{BadNumber}
+use Rattle.tokens.specs.declared.lexer.piece.Piece.TheVariants.{BadNumber}
 use Rattle.hepurita.specs.Below.{keyword_text, Name as NameToken, Number as NumberToken, Piece, suffix_text}
-use Rattle.syntax.specs.Spelling.{Spells}
+use Rattle.tokens.specs.Spelling.{Spells}
 use Rattle.hepurita.specs.Below.{Token, WritesValue}
-use Rattle.syntax.specs.declared.token.Suffix.{Suffix}
-use Rattle.syntax.specs.Spelling.{name, number}
-use Rattle.syntax.specs.private.Splitting.{SplitsAtFirst, is_suffix_letter}
+use Rattle.tokens.specs.declared.token.Suffix.{Suffix}
+use Rattle.tokens.specs.Spelling.{name, number}
+use Rattle.tokens.specs.private.Splitting.{SplitsAtFirst, is_suffix_letter}
 use Rattle.hepurita.proofs.grammar_laws_lemmas.Below.{name_word, number_cut, number_word, suffixes, suffix_found}
 use Rattle.hepurita.proofs.grammar_laws_lemmas.Below.{keywords, keyword_found, find_passes, value_unique, run_at}
 

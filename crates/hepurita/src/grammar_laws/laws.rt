@@ -4,7 +4,7 @@ ghost use Rattle.std.specs.Prelude.{◌≡◌, ℕ, ◌≤◌, List, take};
 ghost use Rattle.std.specs.List.{All};
 ghost use Rattle.hepurita.specs.grammar_laws.Heads.{astray, here, in_program};
 ghost use Rattle.hepurita.specs.Below.{accepted, ParseAnswer, AreByCases, Lexeme, Lexes, origin, place_after};
-ghost use Rattle.syntax.specs.Tokens.{TokensEnding};
+ghost use Rattle.tokens.specs.Tokens.{TokensEnding};
 ghost use Rattle.hepurita.specs.Below.{ProgramTree, Reads};
 
 /// Some program begins with tokens exactly where they begin one by the cases of the grammar.

@@ -4,14 +4,14 @@ use Rattle.std.specs.Prelude.{if◌then◌else◌}
 use Rattle.std.specs.Prelude.{nat_le, nat_lt}
 use Rattle.std.specs.Option.{option_map, option_and_then}
 use Rattle.std.specs.Str.{bytes_eq}
-use Rattle.syntax.specs.declared.parser.operator.OperandStart.{OperandStart}
-use Rattle.syntax.specs.declared.parser.operator.OperandStart.TheVariants.{Number as by_number, Truth as by_truth}
-use Rattle.syntax.specs.declared.parser.operator.OperandStart.TheVariants.{Name as by_name, Bracket as by_bracket}
-use Rattle.syntax.specs.declared.parser.operator.OperandStart.TheVariants.{Prefix as by_prefix}
-use Rattle.syntax.specs.declared.parser.operator.OperandStart.TheVariants.{Conversion as by_conversion}
-use Rattle.syntax.specs.declared.parser.operator.OperandStart.TheVariants.{Select as by_select}
-use Rattle.syntax.specs.declared.parser.operator.Link.{Link}
-use Rattle.syntax.specs.declared.parser.operator.Link.TheVariants.{Operator as by_operator, Rotation as by_rotation}
+use Rattle.tokens.specs.declared.operators.OperandStart.{OperandStart}
+use Rattle.tokens.specs.declared.operators.OperandStart.TheVariants.{Number as by_number, Truth as by_truth}
+use Rattle.tokens.specs.declared.operators.OperandStart.TheVariants.{Name as by_name, Bracket as by_bracket}
+use Rattle.tokens.specs.declared.operators.OperandStart.TheVariants.{Prefix as by_prefix}
+use Rattle.tokens.specs.declared.operators.OperandStart.TheVariants.{Conversion as by_conversion}
+use Rattle.tokens.specs.declared.operators.OperandStart.TheVariants.{Select as by_select}
+use Rattle.tokens.specs.declared.operators.Link.{Link}
+use Rattle.tokens.specs.declared.operators.Link.TheVariants.{Operator as by_operator, Rotation as by_rotation}
 use Rattle.syntax.specs.declared.parser.statement.Start.{Start}
 use Rattle.syntax.specs.declared.parser.statement.Start.TheVariants.{Declaration as by_label, Target as by_target}
 use Rattle.syntax.specs.declared.parser.statement.Start.TheVariants.{Conditional as by_if, Loop as by_for}
@@ -21,22 +21,23 @@ use Rattle.syntax.specs.Below.{Label, loop, MutableArray, name, Nesting, nothing
 use Rattle.syntax.specs.Below.{ProcedureTree, ProgramTree, ReturnTree, RightTree, rotate, select, SingleWord}
 use Rattle.syntax.specs.Below.{StatementTree, truth, UnexpectedToken, WordType}
 use Rattle.language.specs.declared.signature.Form.{Form}
-use Rattle.syntax.specs.declared.token.TokenKind.{TokenKind}
-use Rattle.syntax.specs.declared.token.TokenKind.TheVariants as token
-use Rattle.syntax.specs.declared.token.Keyword.TheVariants.{Export, Void, Mut, Uint32, If, Else, For, From, To}
-use Rattle.syntax.specs.declared.token.Keyword.TheVariants.{Return, Select, True, False}
-use Rattle.syntax.specs.declared.token.Sign.TheVariants.{RotateLeft, OpenRound, CloseRound, OpenCurly, CloseCurly}
-use Rattle.syntax.specs.declared.token.Sign.TheVariants.{OpenSquare, CloseSquare, Comma, Semicolon, Assign}
-use Rattle.syntax.specs.Grammar.{prefix_of, operator_of, level_of, left_level_of, rotation_level, prefix_level}
-use Rattle.syntax.specs.Grammar.{label_of, word_of, conversion_of, suffix_kind, amount_of, length_of}
-use Rattle.syntax.specs.Lexeme.{Lexeme}
-use Rattle.syntax.specs.Nesting.{Nest, after}
-use Rattle.syntax.specs.Limits.{nesting_limit}
+use Rattle.tokens.specs.declared.token.TokenKind.{TokenKind}
+use Rattle.tokens.specs.declared.token.TokenKind.TheVariants as token
+use Rattle.tokens.specs.declared.token.Keyword.TheVariants.{Export, Void, Mut, Uint32, If, Else, For, From, To}
+use Rattle.tokens.specs.declared.token.Keyword.TheVariants.{Return}
+use Rattle.tokens.specs.declared.token.Sign.TheVariants.{OpenRound, CloseRound, OpenCurly, CloseCurly}
+use Rattle.tokens.specs.declared.token.Sign.TheVariants.{OpenSquare, CloseSquare, Comma, Semicolon, Assign}
+use Rattle.syntax.specs.Grammar.{level_of, rotation_level, prefix_level}
+use Rattle.syntax.specs.Grammar.{label_of, word_of, suffix_kind, amount_of, length_of}
+use Rattle.tokens.specs.Lexeme.{Lexeme}
+use Rattle.tokens.specs.Nesting.{Nest, after}
+use Rattle.tokens.specs.Limits.{nesting_limit}
 use Rattle.syntax.specs.Reading.{ParseAnswer, accepted, refused}
-use Rattle.syntax.specs.Spelling.{keyword_text, sign_text, suffix_text}
-use Rattle.syntax.specs.Tokens.{TokensEnding, ends_at, stops}
-use Rattle.syntax.specs.declared.token.Keyword.TheVariants as keyword
-use Rattle.syntax.specs.declared.token.Sign.TheVariants as sign
+use Rattle.tokens.specs.Spelling.{keyword_text, sign_text, suffix_text}
+use Rattle.tokens.specs.Tokens.{TokensEnding, ends_at, stops}
+use Rattle.tokens.specs.declared.token.Keyword.TheVariants as keyword
+use Rattle.tokens.specs.declared.token.Sign.TheVariants as sign
+pub use Rattle.tokens.specs.Operators.{begins_of, link_of, link_level, link_left_level}
 
 -- two kinds are one; keywords, signs and suffixes are known by their spellings
 abbrev pub fits : TokenKind → TokenKind → Bool
@@ -46,32 +47,6 @@ fits (token.Sign one) (token.Sign other) = bytes_eq (sign_text one) (sign_text o
 fits (token.Number value suffix) (token.Number other written) =
     (value == other) && bytes_eq (suffix_text suffix) (suffix_text written)
 fits _ _ = false
-
--- how an operand that begins with such a token begins
-abbrev pub begins_of : TokenKind → Option OperandStart
-begins_of (token.Number value suffix) = Some (by_number value suffix)
-begins_of (token.Keyword True) = Some (by_truth true)
-begins_of (token.Keyword False) = Some (by_truth false)
-begins_of (token.Keyword Select) = Some by_select
-begins_of (token.Keyword word) = option_map by_conversion (conversion_of (token.Keyword word))
-begins_of token.Name = Some by_name
-begins_of (token.Sign OpenRound) = Some by_bracket
-begins_of (token.Sign sign) = option_map by_prefix (prefix_of (token.Sign sign))
-
--- what a sign between operands is
-abbrev pub link_of : TokenKind → Option Link
-link_of (token.Sign RotateLeft) = Some by_rotation
-link_of kind = option_map by_operator (operator_of kind)
-
--- how strongly a sign between operands binds
-abbrev pub link_level : Link → ℕ
-link_level (by_operator operator) = level_of operator
-link_level by_rotation = rotation_level
-
--- how strongly its left operand has to bind
-abbrev pub link_left_level : Link → ℕ
-link_left_level (by_operator operator) = left_level_of operator
-link_left_level by_rotation = rotation_level
 
 -- how a statement that begins with such a token begins
 abbrev pub starts_with : TokenKind → Option Start

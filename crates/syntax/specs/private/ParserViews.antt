@@ -1,23 +1,18 @@
 -- The values of the parser, as the machine sees them.
 use Rattle.std.specs.Prelude.{◌≡◌, Bool, if◌then◌else◌, List, [], ◌∷◌, Option, Some, None, Result, MatchResult, ℕ}
-use Rattle.syntax.specs.declared.nesting.Nesting.{Nesting}
 use Rattle.syntax.specs.declared.parser.ParseFault.{ParseFault}
 use Rattle.syntax.specs.declared.parser.ParseFault.TheVariants.{Refused, Memory}
 use Rattle.syntax.specs.declared.parser.Parser.{Parser}
 use Rattle.syntax.specs.declared.parser.expression.Joint.{Joint}
 use Rattle.syntax.specs.declared.parser.statement.BegunStatement.{BegunStatement}
-use Rattle.syntax.specs.declared.token.Token.{Token}
-use Rattle.syntax.specs.declared.token.TokenKind.TheVariants.{Name}
-use Rattle.syntax.specs.Lexeme.{Lexeme, lexeme, lexemes}
+use Rattle.tokens.specs.declared.token.Token.{Token}
+use Rattle.tokens.specs.declared.token.TokenKind.TheVariants.{Name}
+use Rattle.tokens.specs.Lexeme.{Lexeme, lexeme, lexemes}
 use Rattle.syntax.specs.private.Machine.{ParserState, linked, statements, statement, verdict}
-use Rattle.syntax.specs.Nesting.{Nest}
+use Rattle.tokens.specs.Nested.{nest}
 use Rattle.syntax.specs.Reading.{ParseAnswer, refused}
-use Rattle.syntax.specs.Tokens.{ending}
+use Rattle.tokens.specs.Tokens.{ending}
 use Rattle.syntax.specs.Below.{BlockTree, ExprTree, first, nothing, origin}
-
--- how deeply the tokens so far are nested
-abbrev pub nest : Nesting → Nest
-nest n = record { count = n.count; bases = n.bases.items; after_block = n.after_block }
 
 -- the machine's answer to what is left
 abbrev pub ahead : ParserState → Parser → ParseAnswer

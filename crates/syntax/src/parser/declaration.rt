@@ -1,6 +1,6 @@
 ghost use Rattle.std.specs.Prelude.{◌≡◌, ◌≤◌, ◌<◌, List, Option, OnOk, length, map};
 ghost use Rattle.std.specs.Option.{option_map};
-ghost use Rattle.syntax.specs.Lexeme.{lexeme};
+ghost use Rattle.tokens.specs.Lexeme.{lexeme};
 ghost use Rattle.syntax.specs.private.Machine.{ParserState, first_values, declared_array, declared_word, declared_as};
 ghost use Rattle.syntax.specs.private.Machine.{declared as declared_state, assigned, element_assigned, called_alone};
 ghost use Rattle.syntax.specs.private.Machine.{targeted as targeted_state, unassigned};

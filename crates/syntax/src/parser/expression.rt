@@ -1,5 +1,5 @@
 ghost use Rattle.std.specs.Prelude.{◌≡◌, ◌≤◌, ◌<◌, ℕ, IfOk, IfErr, OnOk, OnSome, length};
-ghost use Rattle.syntax.specs.Lexeme.{lexeme};
+ghost use Rattle.tokens.specs.Lexeme.{lexeme};
 ghost use Rattle.syntax.specs.private.Machine.{ParserState, expr, more, operand as operand_state, named as named_state};
 ghost use Rattle.syntax.specs.private.Machine.{linked, link_level, after_select, converted, ended};
 ghost use Rattle.syntax.specs.private.ParserViews.{Leads, after_sign};
@@ -7,12 +7,12 @@ ghost use Rattle.syntax.specs.Below.{binary as binary_tree, convert as convert_t
 ghost use Rattle.syntax.specs.Below.{expr_tree, ExprTree, name as name_tree, prefix as prefix_tree};
 ghost use Rattle.syntax.specs.Below.{rotate as rotate_tree};
 
-use super::operator::{
-    Link, OPERAND_LEVEL, OperandStart, PREFIX_LEVEL, begins_of, level_of, link_of, suffix_kind,
-};
 use super::step::unexpected;
 use super::{ParseFault, Parser};
 use crate::{BinaryOperator, Expr, Kind, Place, PrefixOperator, Sign, Token, TokenKind};
+use tokens::{
+    Link, OPERAND_LEVEL, OperandStart, PREFIX_LEVEL, begins_of, level_of, link_of, suffix_kind,
+};
 
 /// A sign between operands, and where it stands.
 #[derive(Clone, Copy)]

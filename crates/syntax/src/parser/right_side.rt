@@ -1,5 +1,5 @@
 ghost use Rattle.std.specs.Prelude.{◌≡◌, ◌≤◌, ◌<◌, List, OnOk, length, map};
-ghost use Rattle.syntax.specs.Lexeme.{lexeme};
+ghost use Rattle.tokens.specs.Lexeme.{lexeme};
 ghost use Rattle.syntax.specs.private.Machine.{ParserState, some_exprs, arguments as arguments_state, call_of};
 ghost use Rattle.syntax.specs.private.Machine.{right_from, right as right_state, right_end as right_end_state};
 ghost use Rattle.syntax.specs.private.ParserViews.{Leads};

@@ -1,5 +1,5 @@
 ghost use Rattle.std.specs.Prelude.{◌≡◌, ◌≤◌, ◌<◌, IfOk, IfErr, OnOk, OnSome, length, [], ◌∷◌};
-ghost use Rattle.syntax.specs.Lexeme.{Lexeme, lexeme};
+ghost use Rattle.tokens.specs.Lexeme.{Lexeme, lexeme};
 ghost use Rattle.syntax.specs.private.Machine.{ParserState, starts_with, statements as statements_state};
 ghost use Rattle.syntax.specs.private.Machine.{statement as statement_state, conditioned, counter as counter_state};
 ghost use Rattle.syntax.specs.private.Machine.{looped, block as block_state, otherwise as otherwise_state};

@@ -1,16 +1,15 @@
 ghost use Rattle.std.specs.Prelude.{◌≡◌, ◌≤◌, ◌<◌, true, IfOk, IfErr, OnOk, OnSome, Some, None, [], ◌∷◌, length, ℕ};
 ghost use Rattle.syntax.specs.Grammar.{label_of as label_that, word_of as word_that, amount_of as amount_that};
 ghost use Rattle.syntax.specs.Grammar.{length_of as length_that};
-ghost use Rattle.syntax.specs.Lexeme.{Lexeme, lexeme};
+ghost use Rattle.tokens.specs.Lexeme.{Lexeme, lexeme};
 ghost use Rattle.syntax.specs.private.Machine.{ParserState, one, either, a_label, a_kind, a_length, an_amount};
 ghost use Rattle.syntax.specs.private.Machine.{fits as fits_that, sized, step, ending_answer};
 ghost use Rattle.syntax.specs.private.ParserViews.{Leads, FaultIs, front, skipped, taken};
-ghost use Rattle.syntax.specs.Tokens.{ending};
+ghost use Rattle.tokens.specs.Tokens.{ending};
 ghost use Rattle.syntax.specs.Below.{Kind as KindOf, Label as LabelOf};
 
 use super::{ParseFault, Parser};
-use crate::nesting::NESTING_LIMIT;
-use crate::{Keyword, Kind, Label, ListEnd, Name, Rule, Sign, Token, TokenKind};
+use crate::{Keyword, Kind, Label, ListEnd, NESTING_LIMIT, Name, Rule, Sign, Token, TokenKind};
 use language::MOST_ELEMENTS;
 
 /// The label that a keyword names.
@@ -80,10 +79,8 @@ pub fn unexpected(token: Token<'_>) -> ParseFault
 fn at_end(end: ListEnd) -> ParseFault
     ensures { FaultIs result (ending_answer (ending end) None) }
 {
-    match end {
-        ListEnd::TextEnd(place) => ParseFault::Refused(Rule::UnexpectedToken, place),
-        ListEnd::Fault(rule, place) => ParseFault::Refused(rule, place),
-    }
+    let (rule, place) = end.refusal();
+    ParseFault::Refused(rule, place)
 }
 
 impl<'t> Parser<'t> {

@@ -2,7 +2,7 @@
 use Rattle.std.proofs.Common.{length, sym, ◌∙◌, ⊎_elim}
 use Rattle.std.proofs.lemmas.Bool.{cases_lt}
 use Rattle.std.proofs.lemmas.Option.{none-some}
-use Rattle.syntax.specs.Limits.{source_limit}
+use Rattle.tokens.specs.Limits.{source_limit}
 use Rattle.explanations.specs.habits.Habits.{by_tokens, too_long}
 use Rattle.explanations.proofs.habits.advice_at.Goals as goal
 

@@ -2,9 +2,9 @@ use Rattle.std.proofs.Common.{List, sym, subst}
 use Rattle.std.proofs.lemmas.Result.{err_from_is_err_and}
 use Rattle.language.specs.declared.tree.Procedure.{Procedure}
 use Rattle.syntax.specs.Below.{program_tree}
-use Rattle.syntax.specs.Lexeme.{lexemes}
+use Rattle.tokens.specs.Lexeme.{lexemes}
 use Rattle.syntax.specs.Reading.{Reads, by_tokens, accepted}
-use Rattle.syntax.specs.Tokens.{Lexes, ending}
+use Rattle.tokens.specs.Tokens.{Lexes, ending}
 use Rattle.syntax.proofs.AnswerLaws.{text-refused, lexer-refused, not-long}
 use Rattle.syntax.proofs.GrammarLemmas.{read_text}
 use Rattle.syntax.proofs.parser.parse.Goals as goal

@@ -1,9 +1,10 @@
 use Rattle.std.proofs.Common.{ap, sym, subst, ◌∙◌, inr}
-use Rattle.syntax.specs.Lexeme.{lexemes}
+use Rattle.tokens.specs.Lexeme.{lexemes}
 use Rattle.syntax.specs.private.Machine.{program, verdict}
-use Rattle.syntax.specs.private.ParserViews.{nest, FaultIs}
+use Rattle.syntax.specs.private.ParserViews.{FaultIs}
+use Rattle.tokens.specs.Nested.{nest}
 use Rattle.syntax.specs.Reading.{IsParseAnswer, refused}
-use Rattle.syntax.specs.Tokens.{ending}
+use Rattle.tokens.specs.Tokens.{ending}
 use Rattle.syntax.proofs.MachineAnswers.{answers}
 use Rattle.syntax.proofs.parser.parse_tokens.Goals as goal
 

@@ -1,7 +1,7 @@
 use Rattle.std.proofs.Common.{◌∙◌, rules, tests}
 use Rattle.std.proofs.lemmas.Iterator.{YieldsList-from_slice}
 use Rattle.std.proofs.lemmas.Iterator.Consumers.{YieldsList-at, YieldsList-from_filter, count_from_yields_List}
-use Rattle.syntax.specs.Lexeme.{lexeme}
+use Rattle.tokens.specs.Lexeme.{lexeme}
 use Rattle.explanations.specs.habits.Spots.{is_before}
 use Rattle.explanations.proofs.habits_lemmas.HabitLemmas.{same_count}
 use Rattle.explanations.proofs.habits.spots.count_before.Goals as goal

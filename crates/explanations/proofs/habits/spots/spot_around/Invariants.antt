@@ -1,6 +1,6 @@
 -- The tokens that are left add to the spot so far what all add.
 use Rattle.std.proofs.Common.{◌≡◌, drop, fold, map}
-use Rattle.syntax.specs.Lexeme.{lexeme}
+use Rattle.tokens.specs.Lexeme.{lexeme}
 use Rattle.explanations.specs.habits.Spots.{after_token, spot_around, spot_of}
 use Rattle.explanations.proofs.habits.spots.spot_around.Given as goal
 

@@ -1,6 +1,6 @@
 use Rattle.std.proofs.Common.{sym}
 use Rattle.std.proofs.lemmas.Result.{err_from_is_err_and}
-use Rattle.syntax.specs.Lexeme.{lexeme}
+use Rattle.tokens.specs.Lexeme.{lexeme}
 use Rattle.syntax.specs.private.Machine.{a_kind}
 use Rattle.syntax.proofs.MachineSteps.{kind-step}
 use Rattle.syntax.proofs.parser.Parser.kind.Goals as goal

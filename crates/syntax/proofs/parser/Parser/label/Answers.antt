@@ -1,6 +1,6 @@
 use Rattle.std.proofs.Common.{sym}
 use Rattle.std.proofs.lemmas.Result.{err_from_is_err_and}
-use Rattle.syntax.specs.Lexeme.{lexeme}
+use Rattle.tokens.specs.Lexeme.{lexeme}
 use Rattle.syntax.specs.private.Machine.{a_label}
 use Rattle.syntax.proofs.MachineSteps.{label-step}
 use Rattle.syntax.proofs.parser.Parser.label.Goals as goal

@@ -1,6 +1,6 @@
 use Rattle.std.proofs.Common.{◌≤◌, arith, sym}
 use Rattle.std.proofs.lemmas.Result.{err_from_is_err_and}
-use Rattle.syntax.specs.Lexeme.{lexeme}
+use Rattle.tokens.specs.Lexeme.{lexeme}
 use Rattle.syntax.specs.private.Machine.{more, linked, link_level, link_left_level}
 use Rattle.syntax.proofs.MachineSteps.{sign-step}
 use Rattle.syntax.proofs.parser.Parser.sign.Goals as goal

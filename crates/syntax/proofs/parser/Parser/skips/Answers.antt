@@ -1,6 +1,6 @@
 use Rattle.std.proofs.Common.{◌≡◌, true, rules}
 use Rattle.std.proofs.lemmas.Result.{err_from_is_err_and}
-use Rattle.syntax.specs.Lexeme.{lexeme}
+use Rattle.tokens.specs.Lexeme.{lexeme}
 use Rattle.syntax.specs.private.Machine.{either, fits}
 use Rattle.syntax.proofs.MachineSteps.{either-step}
 use Rattle.syntax.proofs.parser.Parser.skips.Goals as goal

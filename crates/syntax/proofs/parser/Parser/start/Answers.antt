@@ -1,6 +1,6 @@
 use Rattle.std.proofs.Common.{sym}
 use Rattle.std.proofs.lemmas.Result.{err_from_is_err_and}
-use Rattle.syntax.specs.Lexeme.{lexeme}
+use Rattle.tokens.specs.Lexeme.{lexeme}
 use Rattle.syntax.specs.private.Machine.{statements, statement}
 use Rattle.syntax.proofs.MachineSteps.{start-step, more_statements}
 use Rattle.syntax.proofs.parser.Parser.start.Goals as goal

@@ -1,5 +1,0 @@
-use Rattle.syntax.proofs.TokenLaws.{one_list}
-use Rattle.syntax.proofs.lexer.one_list_for_a_source.Goals as goal
-
-pub returns : goal.returns
-returns c = one_list
