@@ -19,7 +19,7 @@ use Rattle.codegen.proofs.Slotted.{given_slotted, slotless_zero, slotted_first, 
 use Rattle.codegen.proofs.Logic.{AreOfKinds, fits_kinds}
 use Rattle.codegen.proofs.Language.{Fits, HasLength, types_of}
 use Rattle.codegen.proofs.Machine.{home_of}
-use Rattle.codegen.specs.expression_code.Layout.{slotted}
+use Rattle.expression_code.specs.Layout.{slotted}
 use Rattle.codegen.specs.private.Homes.{is_no_array}
 use Rattle.std.specs.List.{AllByRecursion}
 use Rattle.inline.specs.FlatSize as flat_size

@@ -8,7 +8,7 @@ use Rattle.codegen.proofs.Language.{Param, WordType}
 use Rattle.codegen.proofs.Logic.{length-map, All-append, option_map, setting as pieces_of, bytes_of, place_of, Setting}
 use Rattle.codegen.proofs.Logic.{seen_by, RunsAt, Steps, Runs, cheaper, All-one, Placed, Placed-left, Placed-right}
 use Rattle.codegen.proofs.Logic.{Halts-after, ecall_halts}
-use Rattle.codegen.proofs.expression_code_lemmas.Frame.{frame_kept}
+use Rattle.expression_code.proofs.Frame.{frame_kept}
 use Rattle.codegen.specs.Below.{start as start_of, words_of}
 use Rattle.codegen.proofs.Machine.{body_words, Stand, IsPlaced, IsLoaded, RunsBehind, IsFollowedIn, loaded_at}
 use Rattle.codegen.proofs.Machine.{results_in, code_at, depth_in_all, most_words, program_code, image_of, result_slot}
@@ -18,8 +18,8 @@ use Rattle.codegen.proofs.Machine.{IsGenerated, Ecall, type_in, Slot}
 use Rattle.codegen.proofs.Arguments.{loaded, arrays_are, returned_is}
 use Rattle.codegen.proofs.SetRuns.{steps_of_result}
 use Rattle.codegen.proofs.Standing.{words_alone, body_words_before, placed_alone, leads_among, stand_placed, placed}
-use Rattle.codegen.proofs.program_logic_lemmas.StepLaws.{leads_alone, still_there}
-use Rattle.codegen.specs.program_logic.MachineSteps.{at_most, LeadsBy}
+use Rattle.expression_code.proofs.program_logic_lemmas.StepLaws.{leads_alone, still_there}
+use Rattle.expression_code.specs.program_logic.MachineSteps.{at_most, LeadsBy}
 use Rattle.codegen.proofs.ProgramRuns.{ProgramEnded, program_runs}
 use Rattle.codegen.specs.private.Fresh.{starts_fresh}
 use Rattle.std.proofs.lemmas.Bool.{and_parts, ltb-true, not-true}

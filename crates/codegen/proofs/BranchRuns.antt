@@ -13,8 +13,8 @@ use Rattle.codegen.proofs.Machine.{read_register, slots_to, test_of, unless_code
 use Rattle.codegen.proofs.PairRuns.{FirstRead, read_then}
 use Rattle.codegen.proofs.Slots.{hidden_by, hidden_kept, hidden_then, read_source, ready_still, StateShown}
 use Rattle.codegen.specs.private.Compared.{is_short_arm}
-use Rattle.codegen.proofs.program_logic_lemmas.Pieces.{by_test}
-use Rattle.codegen.proofs.program_logic_lemmas.Tests.{unless_at}
+use Rattle.expression_code.proofs.program_logic_lemmas.Pieces.{by_test}
+use Rattle.expression_code.proofs.program_logic_lemmas.Tests.{unless_at}
 use Rattle.rv_machine.specs.Machine as machine
 
 -- the test says whether the condition holds

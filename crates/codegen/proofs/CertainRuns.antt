@@ -14,8 +14,8 @@ use Rattle.codegen.proofs.Machine.{home_of, mirror_code, Instr, sign_extended, s
 use Rattle.codegen.proofs.Slots.{StateShown, Hidden, hidden_then, hidden_by, ready_still, ready_with}
 use Rattle.codegen.specs.private.Jumps.{again_code}
 use Rattle.codegen.specs.private.Loops.{any_sets, begin_code, counted_code, last_number_code, iteration_code}
-use Rattle.codegen.specs.expression_code.TermCode.{lower_part}
-use Rattle.codegen.proofs.program_logic_lemmas.Loops.{repeating}
+use Rattle.expression_code.specs.TermCode.{lower_part}
+use Rattle.expression_code.proofs.program_logic_lemmas.Loops.{repeating}
 use Rattle.rv_machine.specs.Machine as machine
 
 -- Fields that are added.

@@ -20,7 +20,7 @@ use Rattle.codegen.specs.private.Erased.{erase_under_code}
 use Rattle.codegen.specs.Below.{depth_in, depth_in_all, height_in, height_in_all, height_of_all}
 use Rattle.codegen.proofs.Machine.{ArePlacedTerms, control_location, HasPlace, HavePlaces, register_of, variable_offset}
 use Rattle.codegen.proofs.Machine.{access_offset, Allocation, computed_index, Frame, IsAmong}
-use Rattle.codegen.specs.expression_code.TermCode.{sum_offset}
+use Rattle.expression_code.specs.TermCode.{sum_offset}
 use Rattle.codegen.specs.Below.{binary, variable}
 use Rattle.codegen.proofs.Slotted.{first_words}
 use Rattle.codegen.proofs.Machine.{home_of, mirror_of, temporaries_offset, kind_at, near_place, height_of, Instr, slots_to}

@@ -17,7 +17,7 @@ use Rattle.codegen.specs.private.Compared.{against_zero}
 use Rattle.codegen.specs.Below.{binary, BinaryOperator, Equal, Greater, GreaterOrEqual, holds, Less, LessOrEqual}
 use Rattle.codegen.specs.Below.{marks_of, of_binary, operated, register, Unequal, Width}
 use Rattle.rv_machine.specs.Machine as machine
-use Rattle.codegen.proofs.expression_code_lemmas.NumberCode.{zero_known}
+use Rattle.expression_code.proofs.NumberCode.{zero_known}
 
 -- Comparisons.
 

@@ -31,7 +31,7 @@ use Rattle.rv_code.specs.declared.instructions.Instr.TheVariants as instr
 use Rattle.rv_machine.specs.Machine as machine
 use Rattle.codegen.proofs.Machine.{mirror_code, mirror_of}
 use Rattle.codegen.proofs.Mirroring.{mirror_length}
-use Rattle.codegen.proofs.expression_code_lemmas.WorkRegisters.{when_some}
+use Rattle.expression_code.proofs.WorkRegisters.{when_some}
 
 -- Numbers as bounds.
 

@@ -18,11 +18,11 @@ use Rattle.codegen.proofs.Unset.{all_left_alone}
 use Rattle.codegen.specs.Below.{register}
 use Rattle.codegen.specs.private.Jumps.{again_code}
 use Rattle.codegen.specs.private.Loops.{any_sets, guarded_code, iterations_code}
-use Rattle.codegen.specs.expression_code.TermCode.{move_code}
-use Rattle.codegen.proofs.program_logic_lemmas.Computing.{computed_value, computes, written_register}
-use Rattle.codegen.proofs.program_logic_lemmas.Jumps.{first_runs, second_runs}
-use Rattle.codegen.proofs.program_logic_lemmas.Loops.{repeating}
-use Rattle.codegen.proofs.program_logic_lemmas.Pieces.{by_test}
+use Rattle.expression_code.specs.TermCode.{move_code}
+use Rattle.expression_code.proofs.program_logic_lemmas.Computing.{computed_value, computes, written_register}
+use Rattle.expression_code.proofs.program_logic_lemmas.Jumps.{first_runs, second_runs}
+use Rattle.expression_code.proofs.program_logic_lemmas.Loops.{repeating}
+use Rattle.expression_code.proofs.program_logic_lemmas.Pieces.{by_test}
 use Rattle.rv_code.specs.declared.instructions.Instr.TheVariants as instr
 use Rattle.rv_machine.specs.Machine as machine
 use Rattle.codegen.proofs.Mirroring.{Mirrored, mirror_length, mirror_runs, ready_mirrored}

@@ -22,7 +22,7 @@ use Rattle.codegen.specs.Below.{register}
 use Rattle.std.proofs.Common.{◌≢◌}
 use Rattle.codegen.proofs.UnderRuns.{number_under, read_begun, merges}
 use Rattle.codegen.proofs.Logic.{AreOfKinds}
-use Rattle.codegen.proofs.expression_code_lemmas.Moves.{is_left, is_written}
+use Rattle.expression_code.proofs.Moves.{is_left, is_written}
 
 module _ (z : Setting) (depth : ℕ) (place : Place) (x size : ℕ) (index value : TermTree)
     (typed : IsElementSet z.code.profile z.declared x size index value)

@@ -16,7 +16,7 @@ use Rattle.codegen.proofs.Language.{element_bytes}
 use Rattle.codegen.proofs.Logic.{as_code, mirror_register}
 use Rattle.codegen.proofs.Mirroring.{Mirrored, mirror_runs}
 use Rattle.codegen.specs.private.Generated.{mirror_count, mirrors_code}
-use Rattle.codegen.specs.expression_code.Allocation.{mirror_if}
+use Rattle.expression_code.specs.Allocation.{mirror_if}
 use Rattle.codegen.proofs.Slots.{Laid, laid_same}
 use Rattle.codegen.specs.private.Homes.{is_no_array, is_word}
 use Rattle.rv_code.specs.declared.instructions.Instr.TheVariants as instr

@@ -20,20 +20,20 @@ use Rattle.codegen.proofs.StoredValues.{stored_alike}
 use Rattle.codegen.specs.private.Emitted.{into_element_code, stored_value}
 use Rattle.codegen.specs.private.Loops.{counting_home, first_below, loop_from, repeat_code, short_number}
 use Rattle.codegen.specs.private.Loops.{to_number_code}
-use Rattle.codegen.specs.expression_code.Allocation.{mirror_if, mirror_of, temporary, working_register}
-use Rattle.codegen.specs.declared.expression_code.allocation.Mirror.{Mirror}
-use Rattle.codegen.specs.declared.expression_code.emit.NearPlace.{NearPlace}
-use Rattle.codegen.specs.expression_code.TermCode.{mirror_by, mirror_code, mirrored_at, mirrored_place, near_or, near_place}
-use Rattle.codegen.specs.expression_code.TermCode.{access_offset, computed_index, into_by, is_at_home, keeps_words}
-use Rattle.codegen.specs.expression_code.TermCode.{code_by, indexed_code, near_code, near_element, operand}
-use Rattle.codegen.specs.expression_code.TermCode.{before_code, opposite_in, prefixed_code, reached_code, sum_offset}
-use Rattle.codegen.specs.declared.expression_code.frame_bytes.FrameBytes.{FrameBytes}
-use Rattle.codegen.specs.expression_code.FrameBytes.{frame_bytes, operated_bytes}
-use Rattle.codegen.specs.expression_code.NumberRows.{number_of}
+use Rattle.expression_code.specs.Allocation.{mirror_if, mirror_of, temporary, working_register}
+use Rattle.expression_code.specs.declared.allocation.Mirror.{Mirror}
+use Rattle.expression_code.specs.declared.emit.NearPlace.{NearPlace}
+use Rattle.expression_code.specs.TermCode.{mirror_by, mirror_code, mirrored_at, mirrored_place, near_or, near_place}
+use Rattle.expression_code.specs.TermCode.{access_offset, computed_index, into_by, is_at_home, keeps_words}
+use Rattle.expression_code.specs.TermCode.{code_by, indexed_code, near_code, near_element, operand}
+use Rattle.expression_code.specs.TermCode.{before_code, opposite_in, prefixed_code, reached_code, sum_offset}
+use Rattle.expression_code.specs.declared.frame_bytes.FrameBytes.{FrameBytes}
+use Rattle.expression_code.specs.FrameBytes.{frame_bytes, operated_bytes}
+use Rattle.expression_code.specs.NumberRows.{number_of}
 use Rattle.inline.specs.Flat as flat
 use Rattle.codegen.specs.Below.{BinaryOperator, Kind, Uint32, Width}
 use Rattle.language.specs.declared.operators.PrefixOperator.{PrefixOperator}
-use Rattle.codegen.specs.expression_code.Layout.{term_layout}
+use Rattle.expression_code.specs.Layout.{term_layout}
 
 pub neither_of_three : (a b c : Bool) → (a || (b || c)) ≡ false → (a ≡ false) × (b ≡ false) × (c ≡ false)
 neither_of_three a b c h =

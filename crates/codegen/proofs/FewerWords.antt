@@ -18,8 +18,8 @@ use Rattle.codegen.specs.Below.{binary, ShiftRight, variable, W32}
 use Rattle.codegen.specs.declared.word_puts.BytePut.{BytePut}
 use Rattle.codegen.specs.declared.word_puts.WordByte.{WordByte}
 use Rattle.codegen.specs.declared.word_puts.WordPut.{WordPut}
-use Rattle.codegen.specs.expression_code.NearElements.{near_element}
-use Rattle.codegen.specs.expression_code.NumberRows.{number_of}
+use Rattle.expression_code.specs.NearElements.{near_element}
+use Rattle.expression_code.specs.NumberRows.{number_of}
 use Rattle.codegen.specs.private.Fresh.{is_fresh, names_in, passes}
 use Rattle.codegen.specs.private.StoredValues.{stored_value}
 use Rattle.codegen.specs.private.WordPuts.{byte_put, lowest_byte, moved_down}

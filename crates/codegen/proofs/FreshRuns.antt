@@ -20,7 +20,7 @@ use Rattle.codegen.proofs.LoopRuns.{AtLoop, bounds_runs}
 use Rattle.codegen.proofs.RepeatRuns.{certain_loops_run, loops_run}
 use Rattle.codegen.proofs.Language.{element_bytes, labelled, Boolean, Public}
 use Rattle.codegen.proofs.Logic.{height, idle, kept_by, kept_then, quiet}
-use Rattle.codegen.specs.expression_code.Allocation.{mirror_if}
+use Rattle.expression_code.specs.Allocation.{mirror_if}
 use Rattle.std.proofs.Common.{ap₂, inl, inr, unwrap_or}
 use Rattle.codegen.proofs.Language.{after, after_all, AreTyped, array, block_work, branch, first, IsSet, IsTyped}
 use Rattle.codegen.proofs.Language.{nothing, Path, path_along, path_at, put, repeats, set, statement_work, take}

@@ -6,15 +6,15 @@ use Rattle.std.proofs.lemmas.Bool.{cases_eq}
 use Rattle.std.proofs.lemmas.Bool.{cond_both}
 use Rattle.codegen.proofs.Machine.{control_offset, number_at, Allocation, control_location, home_of, at_home, InSlot}
 use Rattle.codegen.proofs.Machine.{Mirror, mirror_of, sum_of}
-use Rattle.codegen.proofs.expression_code_lemmas.Values.{mirror_register}
-use Rattle.codegen.specs.expression_code.Allocation.{mirror_if}
+use Rattle.expression_code.proofs.Values.{mirror_register}
+use Rattle.expression_code.specs.Allocation.{mirror_if}
 use Rattle.codegen.proofs.Language.{FlatVariable, StraightState, with_variable, word_as, WordType}
 use Rattle.codegen.proofs.Language.{bits_of, element_bytes}
 use Rattle.codegen.proofs.Logic.{none-some, same_Some, eqb-true, eqb-false, held_kind, one_held, Holds, layout_of}
 use Rattle.codegen.proofs.Logic.{IsOfKind, slice_get_within, HeldAt, mask_of, bytes_of, place_of, Setting, base_of}
 use Rattle.codegen.proofs.Logic.{Kept, Ready, variables_kept, IsHome, kept_number, at_control}
 use Rattle.rv_machine.specs.Machine as machine
-use Rattle.codegen.specs.expression_code.Allocation.{IsAllocation}
+use Rattle.expression_code.specs.Allocation.{IsAllocation}
 
 -- variables that are typed and have homes so, where they are laid out so
 pub record AreLaid (laid declared : List FlatVariable) (a : Allocation) : Type 0 where

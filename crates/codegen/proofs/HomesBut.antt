@@ -2,7 +2,7 @@
 use Rattle.std.proofs.Common.{◌≡◌, ℕ, zero, suc, ◌+◌, Bool, List, [], ◌∷◌, Option, None, Some, refl, ap, ◌∙◌, arith}
 use Rattle.std.proofs.Common.{if◌then◌else◌}
 use Rattle.codegen.proofs.Choices.{of_choice}
-use Rattle.codegen.specs.expression_code.Allocation.{home_of}
+use Rattle.expression_code.specs.Allocation.{home_of}
 use Rattle.codegen.specs.private.Fresh.{homes_but}
 
 pub homes_behind : (left_out : ℕ → Bool) (k : ℕ) (homes : List (Option ℕ)) (x : ℕ)

@@ -1,5 +1,3 @@
-pub mod program_logic_lemmas
-pub mod expression_code_lemmas
 pub mod Machine
 pub mod Language
 pub mod Logic

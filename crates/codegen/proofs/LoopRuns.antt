@@ -27,7 +27,7 @@ use Rattle.codegen.proofs.Slots.{hidden_then, hidden_less, hidden_by, hidden_wro
 use Rattle.codegen.proofs.Slots.{other_number, ready_set}
 use Rattle.codegen.specs.Below.{number}
 use Rattle.codegen.specs.private.Words.{put_word_code}
-use Rattle.codegen.specs.expression_code.TermCode.{move_code}
+use Rattle.expression_code.specs.TermCode.{move_code}
 
 -- So many iterations are left, the next of them for this number: both of the loop's words tell it.
 pub record LoopCounts (z : Setting) (next left i : ℕ) (s : machine.State) : Type 0 where

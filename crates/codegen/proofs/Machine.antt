@@ -21,23 +21,24 @@ pub use Rattle.codegen.specs.private.Generated.{result_code, result_slot, step_l
 pub use Rattle.codegen.specs.private.Jumps.{AreNear, IsFar, branch_code, far, leave, loop_code, unless_code}
 pub use Rattle.codegen.specs.private.Placed.{ArePlacedTerms, HasPlace, HavePlaces}
 pub use Rattle.codegen.specs.private.Room.{HasRoom, IsFitting}
-pub use Rattle.codegen.specs.expression_code.Layout.{Frame, control_offset, next_offset, result_offset, slots_from}
-pub use Rattle.codegen.specs.expression_code.Layout.{control_location, temporaries_offset, variable_location}
-pub use Rattle.codegen.specs.expression_code.Layout.{variable_offset, word_offset}
-pub use Rattle.codegen.specs.expression_code.Allocation.{Allocation, at_home, home_of, plain, register_of, slots_to}
-pub use Rattle.codegen.specs.expression_code.Allocation.{is_unread, mirror_of}
-pub use Rattle.codegen.specs.declared.expression_code.allocation.Mirror.{Mirror}
-pub use Rattle.codegen.specs.declared.expression_code.emit.NearPlace.{NearPlace}
+pub use Rattle.expression_code.specs.Layout.{Frame, control_offset, next_offset, result_offset, slots_from}
+pub use Rattle.expression_code.specs.Layout.{control_location, temporaries_offset, variable_location}
+pub use Rattle.expression_code.specs.Layout.{variable_offset, word_offset}
+pub use Rattle.expression_code.specs.Allocation.{Allocation, at_home, home_of, plain, register_of, slots_to}
+pub use Rattle.expression_code.specs.Allocation.{is_unread, mirror_of}
+pub use Rattle.expression_code.specs.declared.allocation.Mirror.{Mirror}
+pub use Rattle.expression_code.specs.declared.emit.NearPlace.{NearPlace}
 pub use Rattle.codegen.specs.private.Reads.{AllReadKept, IsKeptWithin, ReadsKept}
-pub use Rattle.codegen.specs.expression_code.TermCode.{IsAmong, address_code, code_by, constant_code, fetch_code}
-pub use Rattle.codegen.specs.expression_code.TermCode.{into_code, kind_at, load_by, load_code, lower_part, near_place}
-pub use Rattle.codegen.specs.expression_code.TermCode.{access_offset, computed_index, mirror_by, mirror_code, store_code}
-pub use Rattle.codegen.specs.declared.expression_code.locations.Location.{Location}
-pub use Rattle.codegen.specs.declared.expression_code.locations.Location.TheVariants.{InRegister, InSlot}
-pub use Rattle.codegen.specs.image_fields.Fields.{AreSlots, Fields, IsImage, IsResultSlot, is_length, result_end}
-pub use Rattle.codegen.specs.image_fields.Fields.{slot_end, slots_end, type_in}
-pub use Rattle.codegen.specs.declared.image_fields.slot.ResultSlot.{ResultSlot}
-pub use Rattle.codegen.specs.declared.image_fields.slot.Slot.{Slot}
+pub use Rattle.expression_code.specs.TermCode.{IsAmong, address_code, code_by, constant_code, fetch_code}
+pub use Rattle.expression_code.specs.TermCode.{into_code, kind_at, load_by, load_code, lower_part, near_place}
+pub use Rattle.expression_code.specs.TermCode.{access_offset, computed_index, mirror_by, mirror_code, store_code}
+pub use Rattle.expression_code.specs.declared.locations.Location.{Location}
+pub use Rattle.expression_code.specs.declared.locations.Location.TheVariants.{InRegister, InSlot}
+pub use Rattle.expression_code.specs.image_fields.Fields.{AreSlots, Fields, IsImage, IsResultSlot, is_length}
+pub use Rattle.expression_code.specs.image_fields.Fields.{result_end}
+pub use Rattle.expression_code.specs.image_fields.Fields.{slot_end, slots_end, type_in}
+pub use Rattle.expression_code.specs.declared.image_fields.slot.ResultSlot.{ResultSlot}
+pub use Rattle.expression_code.specs.declared.image_fields.slot.Slot.{Slot}
 pub use Rattle.rv_code.specs.Words.{word_of}
 pub use Rattle.rv_code.specs.declared.instructions.Instr.{Instr}
 pub use Rattle.rv_code.specs.declared.operations.ImmediateOperation.TheVariants.{Addi}

@@ -15,9 +15,9 @@ use Rattle.codegen.proofs.Logic.{layout_of}
 use Rattle.codegen.proofs.Logic.{move_runs, none, slice_get_within, weaken, HeldAt, mask_of, apart, Setting, base_of}
 use Rattle.codegen.proofs.Logic.{Kept, Ready, Wrote, wrote_kept, wrote_there, variables_kept, HomesKept, IsHome}
 use Rattle.codegen.proofs.Logic.{kept_number, home_there, is_free, idle, put, Runs, kept_less, kept_then}
-use Rattle.codegen.proofs.expression_code_lemmas.Moves.{is_left}
-use Rattle.codegen.proofs.expression_code_lemmas.Operands.{put_wrote}
-use Rattle.codegen.proofs.expression_code_lemmas.WorkRegisters.{IsFree, cases_Option}
+use Rattle.expression_code.proofs.Moves.{is_left}
+use Rattle.expression_code.proofs.Operands.{put_wrote}
+use Rattle.expression_code.proofs.WorkRegisters.{IsFree, cases_Option}
 use Rattle.rv_machine.specs.Machine as machine
 use Rattle.codegen.proofs.Slots.{Hidden, hidden_wrote, other_number}
 

@@ -2,10 +2,10 @@
 -- followed it.
 use Rattle.std.proofs.Common.{◌≡◌, ◌≢◌, ℕ, ◌*◌, ◌^◌, ◌<◌, [], ◌∷◌, ◌≤◌, length, List, Option, None, Some, slice_get, refl}
 use Rattle.std.proofs.Common.{sym, ap, ◌∙◌, arith, subst, Bool}
-use Rattle.codegen.proofs.expression_code_lemmas.Below.{scale_code}
-use Rattle.codegen.proofs.expression_code_lemmas.Elements.{pair, scaled}
-use Rattle.codegen.proofs.expression_code_lemmas.OperatorCode.{either_of, kept_beside, low_beside}
-use Rattle.codegen.proofs.expression_code_lemmas.Values.{mirror_register}
+use Rattle.expression_code.proofs.Below.{scale_code}
+use Rattle.expression_code.proofs.Elements.{pair, scaled}
+use Rattle.expression_code.proofs.OperatorCode.{either_of, kept_beside, low_beside}
+use Rattle.expression_code.proofs.Values.{mirror_register}
 use Rattle.codegen.proofs.HomeWords.{laid_so, ready_at_home}
 use Rattle.codegen.proofs.Language.{bits_of, element_bytes, StraightState, with_variable, word_as, WordType}
 use Rattle.codegen.proofs.Logic.{base_of, cheaper, computing_within, free_from, Held, HeldAt, idle, IsHome, Kept}

@@ -14,7 +14,7 @@ use Rattle.codegen.proofs.LoopRuns.{AtLoop, repeats_from, repeats_runs, taken_ho
 use Rattle.codegen.proofs.Machine.{at_home, bounds_code, far, height_of, home_of, InSlot, Instr, next_offset, slots_to}
 use Rattle.codegen.proofs.Machine.{mirror_code, variable_location, variable_offset}
 use Rattle.codegen.proofs.Slots.{Hidden, StateShown}
-use Rattle.codegen.proofs.expression_code_lemmas.WorkRegisters.{when_some}
+use Rattle.expression_code.proofs.WorkRegisters.{when_some}
 use Rattle.codegen.specs.private.Fresh.{is_certain}
 use Rattle.codegen.specs.private.Loops.{any_sets, counting_home, first_below, loop_from, repeat_code, short_number}
 use Rattle.codegen.specs.private.Loops.{to_number_code}

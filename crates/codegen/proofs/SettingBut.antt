@@ -12,9 +12,9 @@ use Rattle.codegen.proofs.Logic.{After, Before, bytes_of, IsOfKind, mask_of, non
 use Rattle.codegen.proofs.Logic.{same_Some, Setting, Steps}
 use Rattle.codegen.proofs.Machine.{Allocation, home_of, Instr, mirror_of, number_at}
 use Rattle.codegen.proofs.TypedBut.{but_at, but_kept, but_length, typed_but}
-use Rattle.codegen.proofs.program_logic_lemmas.StepLaws.{LeadsBy-weaken}
-use Rattle.codegen.specs.expression_code.Allocation.{IsAllocation, mirror_if}
-use Rattle.codegen.specs.expression_code.Layout.{without_words}
+use Rattle.expression_code.proofs.program_logic_lemmas.StepLaws.{LeadsBy-weaken}
+use Rattle.expression_code.specs.Allocation.{IsAllocation, mirror_if}
+use Rattle.expression_code.specs.Layout.{without_words}
 use Rattle.rv_machine.specs.Machine as machine
 
 -- what variables are typed as where some have no homes: those are as they are laid out

@@ -22,18 +22,18 @@ use Rattle.codegen.proofs.Logic.{IsHome, ValuedIn, home_beside, home_target, hom
 use Rattle.codegen.proofs.Logic.{place_target, variables_home, is_free, idle, lt-ltb, works_at, IsTarget, Leaves, put}
 use Rattle.codegen.proofs.Logic.{move_runs, setting, Runs, gives, cheaper, kept_less, kept_by, ready_below, along}
 use Rattle.codegen.proofs.Logic.{home_allowed, home_there, known, none, quiet, ready_after, register-at, value_fits}
-use Rattle.codegen.specs.expression_code.Allocation.{slot_of}
+use Rattle.expression_code.specs.Allocation.{slot_of}
 use Rattle.codegen.specs.private.Homes.{is_no_array}
 use Rattle.codegen.specs.Below.{register, StoreOperation, words_of}
-use Rattle.codegen.proofs.expression_code_lemmas.Operands.{put_wrote}
-use Rattle.codegen.proofs.expression_code_lemmas.Moves.{is_left, put_code, putting}
-use Rattle.codegen.proofs.expression_code_lemmas.WorkRegisters.{cases_Option}
-use Rattle.codegen.proofs.expression_code_lemmas.Values.{kind_fits}
+use Rattle.expression_code.proofs.Operands.{put_wrote}
+use Rattle.expression_code.proofs.Moves.{is_left, put_code, putting}
+use Rattle.expression_code.proofs.WorkRegisters.{cases_Option}
+use Rattle.expression_code.proofs.Values.{kind_fits}
 use Rattle.std.proofs.lemmas.Bool.{cases_Bool, cases_eq, cond_both}
 use Rattle.rv_machine.specs.Machine as machine
 pub use Rattle.codegen.proofs.HiddenWords.{Hidden, hidden_beyond, hidden_by, hidden_kept, hidden_less, hidden_number}
 pub use Rattle.codegen.proofs.HiddenWords.{hidden_then, hidden_wrote}
-use Rattle.codegen.proofs.expression_code_lemmas.NumberCode.{zero_known}
+use Rattle.expression_code.proofs.NumberCode.{zero_known}
 
 -- what is written as a value of its kind is that value again
 pub cut_number : (kind : Kind) (elements : Option ℕ) (v : ℕ) → v < 2 ^ bits_of kind

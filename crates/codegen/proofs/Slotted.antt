@@ -10,7 +10,7 @@ use Rattle.codegen.proofs.Language.{Param, Profile, types_of, Values}
 use Rattle.codegen.proofs.Logic.{AreOfKinds, IsOfKind, lt-ltb, nat_tests, none-some, option_map, same_Some}
 use Rattle.codegen.proofs.Machine.{home_of}
 use Rattle.codegen.specs.Below.{array_words, words_of}
-use Rattle.codegen.specs.expression_code.Layout.{has_slot, slotted, slotted_from, without_words}
+use Rattle.expression_code.specs.Layout.{has_slot, slotted, slotted_from, without_words}
 use Rattle.codegen.specs.private.Homes.{is_no_array, is_word}
 
 -- One variable.

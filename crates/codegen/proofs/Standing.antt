@@ -6,8 +6,8 @@ use Rattle.codegen.proofs.Language.{Profile}
 use Rattle.codegen.proofs.Machine.{body_words, Stand, Instr, word_of, Observation, State, MachineCode}
 use Rattle.codegen.proofs.Machine.{goes_on, word_at, Step, executes}
 use Rattle.codegen.proofs.Logic.{nat_tests, none-some, Placed}
-use Rattle.codegen.proofs.expression_code_lemmas.WorkRegisters.{when_some}
-use Rattle.codegen.specs.program_logic.MachineSteps.{LeadsBy, stays_by, steps_by}
+use Rattle.expression_code.proofs.WorkRegisters.{when_some}
+use Rattle.expression_code.specs.program_logic.MachineSteps.{LeadsBy, stays_by, steps_by}
 use Rattle.codegen.specs.Below.{Event}
 
 -- The words of an image.

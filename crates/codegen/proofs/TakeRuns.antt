@@ -22,9 +22,9 @@ use Rattle.codegen.proofs.Slots.{StateShown, read_runs, read_source, hidden_then
 use Rattle.codegen.proofs.Slots.{source_apart}
 use Rattle.codegen.proofs.Masks.{mask_apart, mask_register, mask_runs, mask_free, home_apart, read_beside, mask_put}
 use Rattle.codegen.proofs.Masks.{ready_taken, mask_beside}
-use Rattle.codegen.proofs.program_logic_lemmas.Computing.{computed_value, computes, written_register}
-use Rattle.codegen.proofs.expression_code_lemmas.WorkRegisters.{IsFree}
-use Rattle.codegen.proofs.expression_code_lemmas.Moves.{register-at}
+use Rattle.expression_code.proofs.program_logic_lemmas.Computing.{computed_value, computes, written_register}
+use Rattle.expression_code.proofs.WorkRegisters.{IsFree}
+use Rattle.expression_code.proofs.Moves.{register-at}
 use Rattle.codegen.specs.Below.{register}
 
 -- Two instructions that compute, each unless nothing reads what it writes.

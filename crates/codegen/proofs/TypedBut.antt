@@ -6,8 +6,8 @@ use Rattle.codegen.proofs.Choices.{choice_of, of_choice}
 use Rattle.codegen.proofs.Language.{AllSuit, array, branch, FlatVariable, IsResult, IsTyped}
 use Rattle.codegen.proofs.Language.{Profile, put, repeats, set, StraightTree, take, TermHasType}
 use Rattle.codegen.proofs.Language.{TermSuits, TermTree, Types, types_but, types_of, WordType}
-use Rattle.codegen.proofs.expression_code_lemmas.Below.{of_binary, of_conversion, of_element, of_number, of_prefix}
-use Rattle.codegen.proofs.expression_code_lemmas.Below.{of_rotation, of_selection, of_truth, of_variable}
+use Rattle.expression_code.proofs.Below.{of_binary, of_conversion, of_element, of_number, of_prefix}
+use Rattle.expression_code.proofs.Below.{of_rotation, of_selection, of_truth, of_variable}
 use Rattle.codegen.proofs.FewerHomes.{IsSimple, neither_of_three}
 use Rattle.codegen.specs.private.Fresh.{names_in, names_in_any, names_in_result, passes}
 

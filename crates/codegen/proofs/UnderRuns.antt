@@ -26,12 +26,12 @@ use Rattle.std.proofs.lemmas.Nat.{and_mask}
 use Rattle.std.specs.Int.Bits.{and_zero_r}
 use Rattle.codegen.specs.private.Erased.{erase_code, erase_under_code}
 use Rattle.codegen.specs.private.Words.{gives_zero}
-use Rattle.codegen.proofs.program_logic_lemmas.Computing.{register_left}
-use Rattle.codegen.proofs.program_logic_lemmas.Pieces.{by_test}
-use Rattle.codegen.proofs.expression_code_lemmas.Moves.{Computed}
-use Rattle.codegen.proofs.expression_code_lemmas.NumberCode.{zero_known}
-use Rattle.codegen.proofs.expression_code_lemmas.Values.{kind_fits}
-use Rattle.codegen.proofs.expression_code_lemmas.WorkRegisters.{IsFree}
+use Rattle.expression_code.proofs.program_logic_lemmas.Computing.{register_left}
+use Rattle.expression_code.proofs.program_logic_lemmas.Pieces.{by_test}
+use Rattle.expression_code.proofs.Moves.{Computed}
+use Rattle.expression_code.proofs.NumberCode.{zero_known}
+use Rattle.expression_code.proofs.Values.{kind_fits}
+use Rattle.expression_code.proofs.WorkRegisters.{IsFree}
 use Rattle.std.proofs.lemmas.Bool.{or_from}
 use Rattle.codegen.proofs.Logic.{AreOfKinds}
 

@@ -8,9 +8,9 @@ use Rattle.codegen.proofs.Language.{FlatVariable, StraightProgram}
 use Rattle.codegen.proofs.Logic.{nat_tests, none-some, same_Some}
 use Rattle.codegen.proofs.Machine.{home_count, home_of, IsFitting}
 use Rattle.codegen.specs.private.Generated.{mirror_count}
-use Rattle.codegen.specs.declared.expression_code.allocation.Mirror.{Mirror}
-use Rattle.codegen.specs.expression_code.Allocation.{IsAllocation, mirror_if, mirror_of}
-use Rattle.codegen.proofs.expression_code_lemmas.WorkRegisters.{when_some}
+use Rattle.expression_code.specs.declared.allocation.Mirror.{Mirror}
+use Rattle.expression_code.specs.Allocation.{IsAllocation, mirror_if, mirror_of}
+use Rattle.expression_code.proofs.WorkRegisters.{when_some}
 use Rattle.codegen.proofs.ReadControls.{all_read_kept}
 use Rattle.codegen.proofs.WeightLengths.{mirror_weights_length, word_weights_length}
 use Rattle.codegen.specs.private.Homes.{all_weights_of, gets_home, home_after, home_at, homes_from, is_chosen}

@@ -5,7 +5,7 @@ use Rattle.codegen.proofs.Logic.{into_length, move_length, one_of, store_length}
 use Rattle.codegen.proofs.Machine.{InRegister, InSlot, into_code, Location, Frame}
 use Rattle.codegen.specs.private.Words.{assign_code, home_of_term, put_word_code, read_code, stored_code}
 use Rattle.codegen.specs.private.Words.{stored_register, gives_zero, unless_home}
-use Rattle.codegen.specs.expression_code.Layout.{term_layout}
+use Rattle.expression_code.specs.Layout.{term_layout}
 
 pub value_length : (layout : Frame) (d place : ℕ) (e : TermTree)
     → length (into_code (term_layout layout) d place e) ≤ 16 * term_nodes e

@@ -6,7 +6,7 @@ use Rattle.codegen.proofs.Logic.{none-some, same_Some}
 use Rattle.codegen.proofs.Machine.{Allocation, Frame, IsAmong, word_put}
 use Rattle.codegen.specs.Below.{binary, ShiftRight, variable, W32}
 use Rattle.codegen.specs.declared.word_puts.WordByte.{WordByte}
-use Rattle.codegen.specs.expression_code.NumberRows.{number_of}
+use Rattle.expression_code.specs.NumberRows.{number_of}
 use Rattle.codegen.specs.private.Placed.{IsPlaced}
 use Rattle.codegen.specs.private.WordPuts.{lowest_byte, moved_down}
 

@@ -23,14 +23,14 @@ use Rattle.codegen.proofs.Machine.{with_byte, with_number}
 use Rattle.codegen.proofs.Numbers.{number_data}
 use Rattle.codegen.proofs.Slots.{assigned, hidden_valued, ready_offered, ready_put, StateShown, suits_fits}
 use Rattle.codegen.proofs.StoredValues.{stored_cut, stored_path}
-use Rattle.codegen.proofs.expression_code_lemmas.Below.{ltb-true, of_variable}
-use Rattle.codegen.proofs.expression_code_lemmas.NumberCode.{near_known}
+use Rattle.expression_code.proofs.Below.{ltb-true, of_variable}
+use Rattle.expression_code.proofs.NumberCode.{near_known}
 use Rattle.codegen.specs.Below.{binary, BinaryOperator, of_binary, Path, ShiftRight, Uint8, variable, W32, Width}
 use Rattle.codegen.specs.declared.word_puts.BytePut.{BytePut}
 use Rattle.codegen.specs.declared.word_puts.WordByte.{WordByte}
 use Rattle.codegen.specs.declared.word_puts.WordPut.{WordPut}
-use Rattle.codegen.specs.expression_code.NearElements.{near_element}
-use Rattle.codegen.specs.expression_code.NumberRows.{number_of}
+use Rattle.expression_code.specs.NearElements.{near_element}
+use Rattle.expression_code.specs.NumberRows.{number_of}
 use Rattle.codegen.specs.private.Emitted.{word_code}
 use Rattle.codegen.specs.private.StoredValues.{stored_value}
 use Rattle.codegen.specs.private.WordPuts.{byte_put, is_next, lowest_byte, moved_down, put_at, word_of_bytes, word_put}

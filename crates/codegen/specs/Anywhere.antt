@@ -7,8 +7,8 @@ use Rattle.codegen.specs.Below.{AreFine, AreWithin, Arg, MachineCode, Leads, Obs
 use Rattle.codegen.specs.Below.{seen, State, StraightProgram, word_at}
 use Rattle.codegen.specs.Bases.{IsInside}
 use Rattle.codegen.specs.Loaded.{loaded_at, results_in}
-use Rattle.codegen.specs.image_fields.Fields.{Fields}
-use Rattle.codegen.specs.program_logic.MachineSteps.{LeadsWithin}
+use Rattle.expression_code.specs.image_fields.Fields.{Fields}
+use Rattle.expression_code.specs.program_logic.MachineSteps.{LeadsWithin}
 
 -- the words of code but the last
 abbrev pub body_words : List ℕ → List ℕ

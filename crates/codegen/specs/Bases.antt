@@ -1,7 +1,7 @@
 -- Where code and frame may lie, and accesses that stay inside the frame.
 use Rattle.std.specs.Prelude.{◌≡◌, ℕ, ◌+◌, ◌*◌, ◌%◌, ◌^◌, ◌<◌, length}
-use Rattle.codegen.specs.image_fields.Fields.{Fields}
-pub use Rattle.codegen.specs.expression_code.Inside.{IsInside}
+use Rattle.expression_code.specs.image_fields.Fields.{Fields}
+pub use Rattle.expression_code.specs.Inside.{IsInside}
 
 -- bases that code and frame may have: multiples of 4, with room above them
 pub record AreBases (image : Fields) (code frame : ℕ) : Type 0 where

@@ -3,8 +3,8 @@ use Rattle.codegen.specs.Below.{FlatVariable, StraightProgram}
 use Rattle.std.specs.Prelude.{List, Option}
 use Rattle.codegen.specs.private.Generated.{image_of, image_within, laid_out}
 use Rattle.codegen.specs.private.Homes.{word_homes}
-use Rattle.codegen.specs.expression_code.Allocation.{plain}
-use Rattle.codegen.specs.image_fields.Fields.{Fields}
+use Rattle.expression_code.specs.Allocation.{plain}
+use Rattle.expression_code.specs.image_fields.Fields.{Fields}
 
 unfoldable pub fields_of : StraightProgram → Fields
 fields_of straight = image_of plain straight

@@ -7,8 +7,8 @@ use Rattle.codegen.specs.Below.{seen, State, StraightProgram}
 use Rattle.codegen.specs.Anywhere.{IsPlaced, IsFollowedIn}
 use Rattle.codegen.specs.Bases.{AreBases, IsInside}
 use Rattle.codegen.specs.Loaded.{params_of, code_at, loaded_at, results_in}
-use Rattle.codegen.specs.image_fields.Fields.{Fields, type_in}
-use Rattle.codegen.specs.image_fields.Limits.{most_frame_bytes}
+use Rattle.expression_code.specs.image_fields.Fields.{Fields, type_in}
+use Rattle.expression_code.specs.image_fields.Limits.{most_frame_bytes}
 use Rattle.rv_machine.specs.declared.stops.Stop.TheVariants.{Ecall}
 
 -- a run on some arguments, which shows this list

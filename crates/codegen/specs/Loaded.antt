@@ -1,8 +1,8 @@
 -- An image and its arguments, loaded: where the machine begins.
 use Rattle.std.specs.Prelude.{ℕ, ◌+◌, zero, suc, List, [], ◌∷◌, ◌++◌, map, unwrap_or}
 use Rattle.std.specs.Option.{option_map}
-use Rattle.codegen.specs.image_fields.Fields.{Fields}
-use Rattle.codegen.specs.declared.image_fields.slot.Slot.{Slot}
+use Rattle.expression_code.specs.image_fields.Fields.{Fields}
+use Rattle.expression_code.specs.declared.image_fields.slot.Slot.{Slot}
 use Rattle.codegen.specs.Below.{Arg, ByteMap, MachineCode, element_bytes, FixedArray, Form, initial_registers}
 use Rattle.codegen.specs.Below.{MutableArray, number_at, Param, SingleWord, State, with_number, zeros}
 use Rattle.language.specs.Results.{Results}

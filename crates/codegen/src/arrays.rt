@@ -6,16 +6,16 @@ ghost use Rattle.codegen.specs.Below.{Addi, Immediate, IsAmong, Register, Store,
 ghost use Rattle.codegen.specs.private.Emitted.{into_element_code, put_code, put_element_code, put_under_code};
 ghost use Rattle.codegen.specs.private.Emitted.{into_near_code, near_store_code, put_under_near_code, read_register};
 ghost use Rattle.codegen.specs.private.Jumps.{loop_code};
-ghost use Rattle.codegen.specs.expression_code.Registers.{zero_register, value_register, second_register};
-ghost use Rattle.codegen.specs.expression_code.Registers.{third_register};
+ghost use Rattle.expression_code.specs.Registers.{zero_register, value_register, second_register};
+ghost use Rattle.expression_code.specs.Registers.{third_register};
 ghost use Rattle.codegen.specs.private.Placed.{IsPlaced, ArePlacedTerms};
 
-use crate::expression_code::emit::{self, NearPlace, address, load_by, near};
-use crate::expression_code::{Layout, Location, fetch};
 use crate::jumping::repeat;
 use crate::masking;
 use crate::reading::{read, stored};
 use crate::stored_values::stored_value;
+use expression_code::emit::{self, NearPlace, address, load_by, near};
+use expression_code::{Layout, Location, fetch};
 use inline::Term;
 use language::Kind;
 use rv_code::{

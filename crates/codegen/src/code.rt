@@ -1,6 +1,6 @@
 ghost use Rattle.std.specs.Prelude.{◌≡◌};
 
-use crate::image_fields::ImageFields;
+use expression_code::image_fields::ImageFields;
 use std::marker::Model;
 
 /// Generated code: the fields of a program's image. Nothing but `generate` makes it.
@@ -10,7 +10,7 @@ pub struct Code {
 }
 
 impl Model for Code {
-    ghost use Rattle.codegen.specs.image_fields.Fields.{Fields};
+    ghost use Rattle.expression_code.specs.image_fields.Fields.{Fields};
 
     ghost Value = { Fields };
 

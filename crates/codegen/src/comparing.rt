@@ -6,12 +6,12 @@ ghost use Rattle.codegen.specs.private.Compared.{against_zero, between, conditio
 ghost use Rattle.codegen.specs.private.Compared.{right_code, right_register, test_of};
 ghost use Rattle.codegen.specs.private.Placed.{IsPlaced};
 ghost use Rattle.codegen.specs.private.Words.{read_code, read_register};
-ghost use Rattle.codegen.specs.expression_code.Registers.{value_register};
+ghost use Rattle.expression_code.specs.Registers.{value_register};
 ghost use Rattle.codegen.specs.Below.{term_tree};
 
-use crate::expression_code::Layout;
 use crate::jumping::Test;
 use crate::reading::{gives_zero, read};
+use expression_code::Layout;
 use inline::Term;
 use language::BinaryOperator;
 use rv_code::{BranchTest, Instr, Reg};

@@ -6,8 +6,8 @@ ghost use Rattle.codegen.specs.private.Fresh.{is_fresh, names_in, names_in_any, 
 ghost use Rattle.codegen.specs.private.Fresh.{is_certain, starts_fresh};
 ghost use Rattle.std.specs.Option.{option_map};
 
-use crate::expression_code::emit::NEAR;
 use branch_removal::{StraightCode, StraightStatement};
+use expression_code::emit::NEAR;
 use inline::Term;
 
 /// Whether an expression names a variable.

@@ -5,28 +5,28 @@ ghost use Rattle.codegen.specs.Exact.{fields_of, optimised_fields_of, optimised_
 ghost use Rattle.codegen.specs.Followed.{IsGenerated};
 ghost use Rattle.codegen.specs.private.Fresh.{homes_but, starts_fresh};
 ghost use Rattle.codegen.specs.Below.{Ecall, most_nodes, most_work, program_height, word_of};
-ghost use Rattle.codegen.specs.expression_code.Allocation.{home_of, slots_to};
-ghost use Rattle.codegen.specs.expression_code.Layout.{slotted};
+ghost use Rattle.expression_code.specs.Allocation.{home_of, slots_to};
+ghost use Rattle.expression_code.specs.Layout.{slotted};
 ghost use Rattle.codegen.specs.private.Generated.{entry_code, first_code, mirrors_code, program_code, result_slot};
 ghost use Rattle.codegen.specs.private.Generated.{most_words, step_limit, image_of, image_within};
 ghost use Rattle.codegen.specs.private.Jumps.{IsFar};
 ghost use Rattle.codegen.specs.private.Room.{HasRoom, IsFitting, frame_of};
-ghost use Rattle.codegen.specs.image_fields.Fields.{IsImage};
+ghost use Rattle.expression_code.specs.image_fields.Fields.{IsImage};
 ghost use Rattle.language.specs.WantOfMemory.{IsWantOfMemory};
 
 use crate::Code;
 use crate::control_uses::unread_controls;
-use crate::expression_code::{
-    Allocation, Layout, REGISTER_COUNT, WORD_BYTES, emit, offsets, slots, slotted,
-};
 use crate::fresh::starts_fresh;
 use crate::heights::{program_extent, temporary_registers};
 use crate::homes::{is_no_array, word_homes};
-use crate::image_fields::{ImageFields, ResultSlot};
 use crate::reading::assign;
 use crate::statements::statements;
 use crate::unemitted::Unemitted;
 use branch_removal::{Straight, StraightCode};
+use expression_code::image_fields::{ImageFields, ResultSlot};
+use expression_code::{
+    Allocation, Layout, REGISTER_COUNT, WORD_BYTES, emit, offsets, slots, slotted,
+};
 use inline::FlatVariable;
 use language::Refusal;
 use rv_code::{Instr, Reg, encode};

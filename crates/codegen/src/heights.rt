@@ -5,8 +5,8 @@ ghost use Rattle.codegen.specs.Below.{depth_in, depth_in_all, height_in, height_
 ghost use Rattle.codegen.specs.Below.{program_height, straight_block, straight_tree, term_tree};
 ghost use Rattle.codegen.specs.private.Homes.{temporary_registers};
 
-use crate::expression_code::height;
 use branch_removal::{StraightCode, StraightStatement};
+use expression_code::height;
 use inline::Term;
 
 /// How many temporaries have registers at least and at most where words live in registers.

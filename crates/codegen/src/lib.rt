@@ -1,7 +1,6 @@
 // The code generator: the instructions that run straight code in the places of its frame, and the fields of their
-// image. The machine, running what is generated, follows the code. Its modules are the fields of an image
-// (`image_fields`), a logic of machine code (`program_logic`) and the code of expressions (`expression_code`). It
-// stands on straight code, the instructions and the machine.
+// image. The machine, running what is generated, follows the code. It stands on straight code, the code of expressions
+// with the fields of an image and the logic of machine code, the instructions and the machine.
 #![tactic(auto)]
 
 mod arrays;
@@ -9,17 +8,14 @@ mod assigned;
 mod code;
 mod comparing;
 mod control_uses;
-pub mod expression_code;
 mod fresh;
 mod generator;
 mod heights;
 mod homes;
-pub mod image_fields;
 mod jumping;
 mod loops;
 mod masking;
 mod mirror_uses;
-pub mod program_logic;
 mod reading;
 mod statements;
 mod stored_values;

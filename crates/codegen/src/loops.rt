@@ -10,11 +10,11 @@ ghost use Rattle.codegen.specs.private.Jumps.{IsFar};
 ghost use Rattle.codegen.specs.private.Placed.{IsPlaced};
 ghost use Rattle.codegen.specs.Below.{Addi, Immediate, term_tree};
 
-use crate::expression_code::emit::{FIELDS, MINUS_ONE, NEAR, load, lower_part, store};
-use crate::expression_code::{Layout, Location, WORD_BYTES, move_register};
 use crate::jumping;
 use crate::reading::{assign, read};
 use crate::unemitted::Unemitted;
+use expression_code::emit::{FIELDS, MINUS_ONE, NEAR, load, lower_part, store};
+use expression_code::{Layout, Location, WORD_BYTES, move_register};
 use inline::Term;
 use rv_code::{Immediate12, ImmediateOperation, Instr, Reg, RegisterOperation};
 use std::alloc::{AllocError, Global};

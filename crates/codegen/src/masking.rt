@@ -5,11 +5,11 @@ ghost use Rattle.codegen.specs.Below.{IsAmong};
 ghost use Rattle.codegen.specs.private.Erased.{erase_code, erase_under_code};
 ghost use Rattle.codegen.specs.private.Emitted.{masks_code, join_code, kept_code, merge_code, taken_code};
 ghost use Rattle.codegen.specs.private.Emitted.{unless_unread};
-ghost use Rattle.codegen.specs.expression_code.Allocation.{is_unread, register_of};
-ghost use Rattle.codegen.specs.expression_code.Layout.{control_location};
+ghost use Rattle.expression_code.specs.Allocation.{is_unread, register_of};
+ghost use Rattle.expression_code.specs.Layout.{control_location};
 
-use crate::expression_code::emit::{MINUS_ONE, load, store};
-use crate::expression_code::{Layout, Location, fetch};
+use expression_code::emit::{MINUS_ONE, load, store};
+use expression_code::{Layout, Location, fetch};
 use rv_code::{Immediate12, ImmediateOperation, Instr, Reg, RegisterOperation};
 use std::alloc::AllocError;
 

@@ -8,7 +8,7 @@ ghost use Rattle.codegen.specs.private.MirrorUses.{changed_by, changed_by_all, f
 ghost use Rattle.codegen.specs.private.MirrorUses.{mirror_weight, reached, reached_by};
 ghost use Rattle.codegen.specs.private.MirrorUses.{reached_by_all, reached_in, reached_in_terms, reached_of};
 ghost use Rattle.codegen.specs.private.MirrorUses.{uses_of};
-ghost use Rattle.codegen.specs.expression_code.TermCode.{kind_at};
+ghost use Rattle.expression_code.specs.TermCode.{kind_at};
 
 use branch_removal::{StraightCode, StraightStatement, count_use, weight_inside};
 use inline::{FlatVariable, Term};

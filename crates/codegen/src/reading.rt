@@ -3,12 +3,12 @@
 ghost use Rattle.std.specs.Prelude.{◌≡◌, ◌++◌, ◌+◌, ◌*◌, ◌≤◌, length, IfOk, OnOk};
 ghost use Rattle.codegen.specs.private.Emitted.{assign_code, gives_zero, read_code, read_register};
 ghost use Rattle.codegen.specs.private.Emitted.{stored_code, stored_register};
-ghost use Rattle.codegen.specs.expression_code.Allocation.{slots_to};
-ghost use Rattle.codegen.specs.expression_code.Layout.{temporaries_offset};
-ghost use Rattle.codegen.specs.expression_code.TermCode.{IsAmong};
+ghost use Rattle.expression_code.specs.Allocation.{slots_to};
+ghost use Rattle.expression_code.specs.Layout.{temporaries_offset};
+ghost use Rattle.expression_code.specs.TermCode.{IsAmong};
 ghost use Rattle.codegen.specs.Below.{height_of, term_tree};
 
-use crate::expression_code::{Layout, emit, into, number};
+use expression_code::{Layout, emit, into, number};
 use inline::Term;
 use rv_code::{Instr, Reg};
 use std::alloc::AllocError;

@@ -4,19 +4,19 @@ ghost use Rattle.std.specs.Prelude.{◌≡◌, ◌++◌, ◌+◌, ◌*◌, ◌<�
 ghost use Rattle.codegen.specs.Below.{array_words, straight_block, straight_tree, term_tree, variable as variable_tree};
 ghost use Rattle.branch_removal.specs.Straight as straight;
 ghost use Rattle.codegen.specs.private.Emitted.{branching_code, set_code, statement_code, block_code};
-ghost use Rattle.codegen.specs.expression_code.Layout.{variable_location};
+ghost use Rattle.expression_code.specs.Layout.{variable_location};
 ghost use Rattle.codegen.specs.private.Jumps.{AreNear, IsFar};
 ghost use Rattle.codegen.specs.private.Placed.{IsPlaced, HasPlace, HavePlaces};
 ghost use Rattle.codegen.specs.private.WordPuts.{word_code};
 
 use crate::assigned::any_sets;
-use crate::expression_code::{Layout, Location, emit, fetch, into};
 use crate::loops::Loop;
 use crate::reading::{assign, gives_zero, read};
 use crate::unemitted::Unemitted;
 use crate::word_puts::{WordPut, word_put};
 use crate::{arrays, comparing, jumping, loops, masking};
 use branch_removal::StraightStatement;
+use expression_code::{Layout, Location, emit, fetch, into};
 use inline::Term;
 use language::Kind;
 use rv_code::{Instr, Reg};

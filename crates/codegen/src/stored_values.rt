@@ -3,10 +3,10 @@
 ghost use Rattle.std.specs.Prelude.{◌≡◌, ℕ};
 ghost use Rattle.codegen.specs.private.Emitted.{cuts, stored_value, uncut};
 ghost use Rattle.codegen.specs.private.Placed.{IsPlaced};
-ghost use Rattle.codegen.specs.expression_code.Layout.{Frame};
+ghost use Rattle.expression_code.specs.Layout.{Frame};
 ghost use Rattle.codegen.specs.Below.{term_tree};
 
-use crate::expression_code::Layout;
+use expression_code::Layout;
 use inline::Term;
 use language::Kind;
 

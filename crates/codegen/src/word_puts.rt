@@ -5,9 +5,9 @@ ghost use Rattle.codegen.specs.private.Placed.{HasPlace, HavePlaces, IsPlaced};
 ghost use Rattle.codegen.specs.private.WordPuts.{are_a_word, byte_put, is_next, lowest_byte, moved_down, word_put};
 ghost use Rattle.codegen.specs.Below.{straight_block, straight_tree, term_tree, variable as variable_tree};
 
-use crate::expression_code::{Layout, WORD_BYTES, number};
 use crate::stored_values::stored_value;
 use branch_removal::StraightStatement;
+use expression_code::{Layout, WORD_BYTES, number};
 use inline::Term;
 use language::{BinaryOperator, Kind};
 use word::Width;

@@ -11,8 +11,8 @@ use Rattle.image.specs.Format.{Format, ends, field, read_by}
 use Rattle.commands.specs.Below.{flagged_format, image_format, is_word_count, longest_image, most_parameters}
 use Rattle.commands.specs.Below.{most_words, reading, result_format, slot_end, slot_format, slots_end, slots_format}
 use Rattle.commands.specs.Below.{words_format}
-use Rattle.codegen.specs.declared.image_fields.slot.Slot.{Slot}
-use Rattle.codegen.specs.declared.image_fields.slot.ResultSlot.{ResultSlot}
+use Rattle.expression_code.specs.declared.image_fields.slot.Slot.{Slot}
+use Rattle.expression_code.specs.declared.image_fields.slot.ResultSlot.{ResultSlot}
 
 -- reading by a format takes no more than so many bytes
 abbrev TakesAtMost : ℕ → Format → Type 0

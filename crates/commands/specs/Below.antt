@@ -36,8 +36,8 @@ pub use Rattle.language.specs.declared.rule.Rule.TheVariants.{TextTooLong}
 pub use Rattle.language.specs.declared.signature.Param.{Param}
 pub use Rattle.language.specs.declared.values.Arg.{Arg}
 pub use Rattle.codegen.specs.Loaded.{code_at, loaded_at, params_of}
-pub use Rattle.codegen.specs.image_fields.Fields.{Fields, IsImage, slot_end, slots_end}
-pub use Rattle.codegen.specs.image_fields.Limits.{most_parameters, most_words}
+pub use Rattle.expression_code.specs.image_fields.Fields.{Fields, IsImage, slot_end, slots_end}
+pub use Rattle.expression_code.specs.image_fields.Limits.{most_parameters, most_words}
 pub use Rattle.tokens.specs.Limits.{source_limit}
 pub use Rattle.source_eval.specs.Answer.{answer}
 pub use Rattle.source_eval.specs.declared.fault.EvalFault.{EvalFault}

@@ -11,7 +11,7 @@ use crate::fault::{Fault, FileFault};
 use crate::files::Files;
 use crate::reading::bytes_of;
 use crate::texts::{text_of_file, write_file};
-use codegen::image_fields::MOST_WORDS;
+use expression_code::image_fields::MOST_WORDS;
 use input_files::wrapping::{Asked, WrapFault, wrap};
 use std::alloc::Global;
 

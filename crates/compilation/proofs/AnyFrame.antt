@@ -6,7 +6,7 @@ use Rattle.std.proofs.Common.{map, ◌≤◌, Some, None, Option, length-append,
 use Rattle.codegen.proofs.Language.{AreWithin, StraightProgram, StraightState, after_all, path_along, outcome_of}
 use Rattle.codegen.proofs.Language.{path_of, types_of, Path, AreFine, seen, Arg, Profile, Values}
 use Rattle.codegen.proofs.Logic.{length-map, setting as pieces_of, bytes_of, place_of, Setting, seen_by, RunsAt, Steps, Runs, cheaper}
-use Rattle.codegen.proofs.expression_code_lemmas.Frame.{frame_kept}
+use Rattle.expression_code.proofs.Frame.{frame_kept}
 use Rattle.codegen.proofs.Machine.{IsPlaced, RunsBehind, Stand, depth_in_all, most_words, program_code, image_of}
 use Rattle.codegen.proofs.Machine.{HasRoom, variable_offset, Instr, word_of, Observation, number_at, results_in}
 use Rattle.codegen.proofs.Machine.{MachineCode, Allocation, body_of, body_words, IsFitting}
@@ -16,8 +16,8 @@ use Rattle.codegen.proofs.BodyRuns.{followed_in, slot_params}
 use Rattle.codegen.proofs.SetRuns.{steps_of_result}
 use Rattle.codegen.specs.Below.{start as start_of}
 use Rattle.codegen.proofs.Standing.{words_alone, body_words_before, placed_alone, leads_among}
-use Rattle.codegen.proofs.program_logic_lemmas.StepLaws.{leads_alone, still_there}
-use Rattle.codegen.specs.program_logic.MachineSteps.{at_most, LeadsBy}
+use Rattle.expression_code.proofs.program_logic_lemmas.StepLaws.{leads_alone, still_there}
+use Rattle.expression_code.specs.program_logic.MachineSteps.{at_most, LeadsBy}
 use Rattle.codegen.proofs.ProgramRuns.{ProgramEnded, program_runs}
 use Rattle.codegen.specs.private.Fresh.{starts_fresh}
 use Rattle.std.proofs.lemmas.Bool.{and_parts, ltb-true, not-true}

@@ -18,10 +18,10 @@ use Rattle.codegen.proofs.Logic.{number_at_same, number_at-suc, number_at-zero, 
 use Rattle.codegen.proofs.Logic.{place_of, place_within, Setting, place_ends}
 use Rattle.codegen.proofs.Slots.{Laid}
 use Rattle.codegen.proofs.Slotted.{given_slotted, slotless_zero, slotted_first, slotted_kinds, slotted_was}
-use Rattle.codegen.proofs.expression_code_lemmas.Fitting.{AreOfKinds, held_kind, IsOfKind}
+use Rattle.expression_code.proofs.Fitting.{AreOfKinds, held_kind, IsOfKind}
 use Rattle.codegen.proofs.Language.{types_of}
 use Rattle.codegen.proofs.Machine.{home_of}
-use Rattle.codegen.specs.expression_code.Layout.{slotted}
+use Rattle.expression_code.specs.Layout.{slotted}
 use Rattle.codegen.specs.private.Homes.{is_no_array, is_word}
 use Rattle.codegen.proofs.Numbers.{zero_number}
 use Rattle.compilation.specs.Blank.{IsZeroWord, words_from, has_few_values, blank_from}

@@ -7,7 +7,7 @@ use Rattle.std.proofs.Common.{subst, arith}
 use Rattle.inline.proofs.FittingBodies.{argument_held}
 use Rattle.codegen.proofs.Machine.{slots_from, with_numbers, with_argument, with_arguments, ByteMap, number_at}
 use Rattle.codegen.proofs.Machine.{with_number}
-use Rattle.codegen.specs.declared.image_fields.slot.Slot.{Slot}
+use Rattle.expression_code.specs.declared.image_fields.slot.Slot.{Slot}
 use Rattle.rv_machine.specs.Bytes.{with_byte}
 use Rattle.codegen.proofs.Language.{AreWithin, IsWithin, HasShape, words_of, FlatVariable, numbers_in, declaration_of}
 use Rattle.codegen.proofs.Language.{given, declared_words, Form, SingleWord, FixedArray, MutableArray, Kind, Boolean}

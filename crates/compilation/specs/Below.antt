@@ -19,7 +19,7 @@ pub use Rattle.inline.specs.Path.{AreFine, Path, seen}
 pub use Rattle.codegen.specs.Anywhere.{IsLoaded, IsPlaced, RunsBehind}
 pub use Rattle.codegen.specs.Followed.{IsGenerated}
 pub use Rattle.codegen.specs.Loaded.{params_of, with_arguments}
-pub use Rattle.codegen.specs.image_fields.Fields.{Fields, IsImage}
+pub use Rattle.expression_code.specs.image_fields.Fields.{Fields, IsImage}
 pub use Rattle.variable_room.specs.set_whole.Whole.{AgreeBut, set_whole_of}
 unfoldable pub use Rattle.branch_removal.specs.Exact.{straight_of}
 unfoldable pub use Rattle.codegen.specs.Exact.{fields_of, optimised_fields_of, optimised_variables}

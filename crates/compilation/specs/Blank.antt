@@ -2,7 +2,7 @@
 use Rattle.std.specs.Prelude.{◌≡◌, ℕ, zero, suc, ◌+◌, ◌*◌, ◌<◌, ◌&&◌, Bool, true, false, List, [], ◌∷◌, ◌++◌, length}
 use Rattle.std.specs.Prelude.{Option, None, Some, if◌then◌else◌}
 use Rattle.std.specs.List.{AllByRecursion}
-use Rattle.codegen.specs.expression_code.Layout.{control_offset}
+use Rattle.expression_code.specs.Layout.{control_offset}
 use Rattle.compilation.specs.Below.{ByteMap, StraightProgram}
 use Rattle.inline.specs.FlatSize.{words_of}
 use Rattle.inline.specs.declared.flat.FlatVariable.{FlatVariable}

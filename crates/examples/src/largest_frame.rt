@@ -1,7 +1,7 @@
 // The function of an image whose frame has 65,536 bytes, the most that an image may have. Its body uses the first and
 // the last word of the frame. All words were worked out by hand; `tests/linked` calls them.
 
-use codegen::image_fields::{ImageFields, ResultSlot, Slot};
+use expression_code::image_fields::{ImageFields, ResultSlot, Slot};
 use functions::function_code::{function_words, room_of};
 use hepurita::FrameNeeds;
 use language::{Form, Kind, Label, Param, Profile};

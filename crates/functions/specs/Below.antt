@@ -25,9 +25,9 @@ pub use Rattle.language.specs.declared.signature.Kind.TheVariants.{Uint32}
 pub use Rattle.language.specs.declared.signature.Form.{Form}
 pub use Rattle.language.specs.declared.signature.Form.TheVariants.{FixedArray, MutableArray, SingleWord}
 pub use Rattle.codegen.specs.Anywhere.{body_words}
-pub use Rattle.codegen.specs.expression_code.TermCode.{constant_code, load_by}
-pub use Rattle.codegen.specs.image_fields.Fields.{Fields}
-pub use Rattle.codegen.specs.program_logic.Jumps.{over}
+pub use Rattle.expression_code.specs.TermCode.{constant_code, load_by}
+pub use Rattle.expression_code.specs.image_fields.Fields.{Fields}
+pub use Rattle.expression_code.specs.program_logic.Jumps.{over}
 pub use Rattle.tokens.specs.Spelling.{is_name_or_keyword, is_word_byte}
 pub use Rattle.hepurita.specs.Built.{accepts, fine, IsCompilation, Judges, readable}
 pub use Rattle.compilation.specs.declared.optimised.Optimisation.{Optimisation}

@@ -9,7 +9,7 @@ use Rattle.std.specs.Option.{option_map}
 use Rattle.harts.specs.Below.{AreWithin, Arg, array_in, arrays_in, ByteMap, element_bytes, Fields, IsImage, loaded_at}
 use Rattle.harts.specs.Below.{number_at, numbers_at, params_of, result_end, results_in, Slot, slot_bytes, slot_end}
 use Rattle.harts.specs.Below.{with_argument, with_arguments, word_in, zeros}
-use Rattle.codegen.specs.declared.image_fields.slot.ResultSlot.{ResultSlot}
+use Rattle.expression_code.specs.declared.image_fields.slot.ResultSlot.{ResultSlot}
 use Rattle.language.specs.declared.signature.Form.{Form}
 use Rattle.language.specs.declared.signature.Form.TheVariants.{MutableArray}
 use Rattle.harts.proofs.Below.{argument_extent, bytes_within, number_at_same, zeros_there}

@@ -20,8 +20,8 @@ pub use Rattle.language.specs.declared.values.Arg.{Arg}
 pub use Rattle.codegen.specs.Bases.{AreBases, IsInside}
 pub use Rattle.codegen.specs.Loaded.{array_in, arrays_in, code_at, loaded_at, numbers_at, params_of, results_in}
 pub use Rattle.codegen.specs.Loaded.{with_argument, with_arguments, with_numbers, word_in}
-pub use Rattle.codegen.specs.image_fields.Fields.{Fields, IsImage, result_end, slot_bytes, slot_end}
-pub use Rattle.codegen.specs.declared.image_fields.slot.Slot.{Slot}
+pub use Rattle.expression_code.specs.image_fields.Fields.{Fields, IsImage, result_end, slot_bytes, slot_end}
+pub use Rattle.expression_code.specs.declared.image_fields.slot.Slot.{Slot}
 pub use Rattle.hepurita.specs.Bases.{code_base, code_distance, frame_base, frame_distance, most_images}
 pub use Rattle.hepurita.specs.Compiled.{IsCompiled, Means, RunsTo}
 pub use Rattle.hepurita.specs.Frames.{HoldsSlot, IsSpaceFor}

@@ -124,9 +124,9 @@ pub use Rattle.codegen.specs.Bases.{AreBases, IsInside}
 pub use Rattle.codegen.specs.Followed.{IsGenerated, RunsAs}
 pub use Rattle.codegen.specs.Loaded.{array_in, arrays_in, code_at, loaded_at, numbers_at, params_of, results_in}
 pub use Rattle.codegen.specs.Loaded.{with_argument, with_arguments, with_numbers}
-pub use Rattle.codegen.specs.image_fields.Fields.{Fields, IsImage, slot_bytes, slot_end, slots_end, type_in}
-pub use Rattle.codegen.specs.image_fields.Limits.{most_frame_bytes, most_parameters}
-pub use Rattle.codegen.specs.declared.image_fields.slot.Slot.{Slot}
+pub use Rattle.expression_code.specs.image_fields.Fields.{Fields, IsImage, slot_bytes, slot_end, slots_end, type_in}
+pub use Rattle.expression_code.specs.image_fields.Limits.{most_frame_bytes, most_parameters}
+pub use Rattle.expression_code.specs.declared.image_fields.slot.Slot.{Slot}
 pub use Rattle.tokens.specs.Lexeme.{Lexeme}
 pub use Rattle.tokens.specs.Spelling.{bad_number, is_blank, is_line_feed, is_word_byte, IsNumber, keyword}
 pub use Rattle.tokens.specs.Spelling.{keyword_text, sign_text, suffix_text, WritesValue}

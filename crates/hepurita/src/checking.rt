@@ -3,7 +3,7 @@
 ghost use Rattle.std.specs.Prelude.{◌≡◌, ◌↔◌, None};
 ghost use Rattle.hepurita.specs.Below.{AreWithin, fault_of, IsImage, params_of};
 
-use codegen::image_fields::Slot;
+use expression_code::image_fields::Slot;
 use image::Image;
 use language::arguments::{ArgumentFault, broken_rule, first_fault_by};
 use language::{Arg, Args};

@@ -7,7 +7,7 @@ ghost use Rattle.hepurita.specs.Bases.{code_base, frame_base};
 ghost use Rattle.hepurita.specs.Frames.{HoldsSlot};
 
 use crate::elements::{element_size, put_numbers};
-use codegen::image_fields::Slot;
+use expression_code::image_fields::Slot;
 use image::Image;
 use language::{Arg, Args, Param};
 use rv_machine::hart::Hart;

@@ -5,7 +5,7 @@ ghost use Rattle.hepurita.specs.Below.{arrays_in, results_in};
 ghost use Rattle.hepurita.specs.Frames.{IsSpaceFor};
 
 use crate::elements::{element_size, numbers};
-use codegen::image_fields::Slot;
+use expression_code::image_fields::Slot;
 use image::Image;
 use language::{Form, Numbers, Outcome};
 use rv_machine::memory::{Memory, Size};

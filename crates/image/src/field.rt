@@ -7,7 +7,7 @@ ghost use Rattle.image.specs.private.Spelling.{profile_number};
 
 use crate::ImageRule;
 use crate::preamble::{MAGIC, VERSION};
-use codegen::image_fields::{MOST_FRAME_BYTES, MOST_PARAMETERS, MOST_STEPS, MOST_WORDS};
+use expression_code::image_fields::{MOST_FRAME_BYTES, MOST_PARAMETERS, MOST_STEPS, MOST_WORDS};
 use language::{Form, Kind, Label, MOST_ELEMENTS, Profile};
 
 /// A field of an image.

@@ -2,7 +2,7 @@ ghost use Rattle.std.specs.Prelude.{◌≡◌};
 ghost use Rattle.image.specs.Below.{Fields, IsImage};
 
 use codegen::Code;
-use codegen::image_fields::{ImageFields, ResultSlot, Slot};
+use expression_code::image_fields::{ImageFields, ResultSlot, Slot};
 use language::Profile;
 use std::marker::Model;
 

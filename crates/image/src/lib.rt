@@ -1,8 +1,8 @@
 // Images: a program for the machine as bytes. Bytes and fields determine each other: `write_fields` gives the one
 // spelling of fields, `write` that of generated code, and `read` gives the image of each spelling, and of other bytes
 // the first fault from the left. All three go by one table of fields, `Field`, and so does the format by which they are
-// stated, `specs/Reading.antt`. It stands on the code of `codegen` and the fields of its module `image_fields`, and
-// writes and reads numbers by `byteorder`.
+// stated, `specs/Reading.antt`. It stands on the code of `codegen` and the fields of `image_fields` in
+// `expression_code`, and writes and reads numbers by `byteorder`.
 #![tactic(auto)]
 
 mod fault;

@@ -3,7 +3,7 @@
 ghost use Rattle.std.specs.Prelude.{◌≡◌};
 ghost use Rattle.image.specs.Limits.{longest_image};
 
-use codegen::image_fields::{MOST_PARAMETERS, MOST_WORDS};
+use expression_code::image_fields::{MOST_PARAMETERS, MOST_WORDS};
 
 /// How many bytes an image takes at most beside its parameters and its code words.
 pub(crate) const FIXED_BYTES: usize = 33;

@@ -10,7 +10,7 @@ use crate::field::{FORMS, Field, KINDS, LABELS, profile_of};
 use crate::limits::{PARAMETER_BYTES, WORD_BYTES};
 use crate::{Image, ImageFault, ImageRule};
 use byteorder::{ByteOrder, LittleEndian};
-use codegen::image_fields::{ImageFields, ResultSlot, Slot};
+use expression_code::image_fields::{ImageFields, ResultSlot, Slot};
 use language::Param;
 use std::alloc::Global;
 

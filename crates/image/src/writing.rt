@@ -10,7 +10,7 @@ use crate::limits::{FIXED_BYTES, PARAMETER_BYTES, WORD_BYTES};
 use crate::preamble::{MAGIC, VERSION};
 use byteorder::{ByteOrder, LittleEndian};
 use codegen::Code;
-use codegen::image_fields::{ImageFields, ResultSlot, Slot};
+use expression_code::image_fields::{ImageFields, ResultSlot, Slot};
 use language::Refusal;
 use std::alloc::{AllocError, Global};
 

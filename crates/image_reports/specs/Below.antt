@@ -58,8 +58,8 @@ pub use Rattle.intervals.specs.Work.{cost_by, ranged}
 unfoldable pub use Rattle.branch_removal.specs.Exact.{straight_of}
 pub use Rattle.codegen.specs.Loaded.{array_in, arrays_in, code_at, loaded_at, numbers_at, params_of, results_in}
 pub use Rattle.codegen.specs.Loaded.{with_argument, with_arguments, with_numbers}
-pub use Rattle.codegen.specs.image_fields.Fields.{AreSlots, Fields, is_length, IsImage, slot_end}
-pub use Rattle.codegen.specs.declared.image_fields.slot.Slot.{Slot}
+pub use Rattle.expression_code.specs.image_fields.Fields.{AreSlots, Fields, is_length, IsImage, slot_end}
+pub use Rattle.expression_code.specs.declared.image_fields.slot.Slot.{Slot}
 pub use Rattle.hepurita.specs.source_work.SourceWork.{work_cost}
 pub use Rattle.hepurita.specs.Bases.{code_base, frame_base}
 pub use Rattle.hepurita.specs.Built.{accepts, IsCompilation, Judges}

@@ -2,7 +2,7 @@
 // parameters and result lie.
 //
 // It promises that the numbers are those of the image's fields, which machine and loader use
-// (`specs/statistics/FieldsText.antt`). It stands on `codegen::image_fields`, and on `language` for types.
+// (`specs/statistics/FieldsText.antt`). It stands on `expression_code::image_fields`, and on `language` for types.
 
 mod fields;
 mod types;

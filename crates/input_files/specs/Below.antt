@@ -14,9 +14,9 @@ pub use Rattle.language.specs.declared.signature.Param.{Param}
 pub use Rattle.language.specs.declared.typing.WordType.{WordType}
 pub use Rattle.inline.specs.Flat.{declaration_of}
 pub use Rattle.inline.specs.FlatSize.{declared_words, HasLength}
-pub use Rattle.codegen.specs.expression_code.Layout.{slots_from}
-pub use Rattle.codegen.specs.image_fields.Fields.{Fields, IsImage, IsResultSlot, result_end, slots_end}
-pub use Rattle.codegen.specs.declared.image_fields.slot.ResultSlot.{ResultSlot}
+pub use Rattle.expression_code.specs.Layout.{slots_from}
+pub use Rattle.expression_code.specs.image_fields.Fields.{Fields, IsImage, IsResultSlot, result_end, slots_end}
+pub use Rattle.expression_code.specs.declared.image_fields.slot.ResultSlot.{ResultSlot}
 pub use Rattle.tokens.specs.Limits.{source_limit}
 pub use Rattle.image.specs.Reading.{AreBytes, is_frame_size, is_step_limit, is_word_count, layout_end, Spells}
 pub use Rattle.hepurita.specs.Bases.{most_images}

@@ -5,14 +5,14 @@ use Rattle.std.specs.Prelude.{bit_and, bit_or}
 use Rattle.std.proofs.Common.{◌≡◌, ◌≢◌, ℕ, ◌+◌, ◌*◌, ◌%◌, ◌^◌, ◌<◌, ◌==◌, List, [], ◌∷◌, ◌++◌, length, refl, sym, ap}
 use Rattle.std.proofs.Common.{ap₂, ◌∙◌, subst, arith, length-append, eq-eqb, ne_eqb}
 use Rattle.std.proofs.lemmas.Bool.Decides.{nat_tests}
-use Rattle.codegen.proofs.program_logic_lemmas.Counted.{computes_runs, in_steps, makes_then, Runs, Setting}
-use Rattle.codegen.proofs.program_logic_lemmas.Counted.{weaken_runs}
-use Rattle.codegen.proofs.program_logic_lemmas.Jumps.{over_ends, shown_at, taken_ends, untaken_ends}
-use Rattle.codegen.proofs.program_logic_lemmas.Pieces.{ends_to, then_ends}
-use Rattle.codegen.proofs.program_logic_lemmas.PlacedLaws.{Placed-below, Placed-left, Placed-right}
-use Rattle.codegen.specs.program_logic.Pieces.{always, both, Still}
-use Rattle.codegen.specs.program_logic.Placed.{Placed}
-use Rattle.codegen.specs.program_logic.StraightCode.{contents_of}
+use Rattle.expression_code.proofs.program_logic_lemmas.Counted.{computes_runs, in_steps, makes_then, Runs, Setting}
+use Rattle.expression_code.proofs.program_logic_lemmas.Counted.{weaken_runs}
+use Rattle.expression_code.proofs.program_logic_lemmas.Jumps.{over_ends, shown_at, taken_ends, untaken_ends}
+use Rattle.expression_code.proofs.program_logic_lemmas.Pieces.{ends_to, then_ends}
+use Rattle.expression_code.proofs.program_logic_lemmas.PlacedLaws.{Placed-below, Placed-left, Placed-right}
+use Rattle.expression_code.specs.program_logic.Pieces.{always, both, Still}
+use Rattle.expression_code.specs.program_logic.Placed.{Placed}
+use Rattle.expression_code.specs.program_logic.StraightCode.{contents_of}
 use Rattle.linked_calls.proofs.Below.{by_alignment_code, ByteMap, Data, Instr, State, with_register, with_result}
 use Rattle.linked_calls.proofs.Parts.{overwritten}
 use Rattle.linked_calls.specs.Below.{Andi, Beq, Branch, Immediate, Or, over, Register}

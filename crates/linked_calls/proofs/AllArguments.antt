@@ -5,7 +5,7 @@ use Rattle.std.proofs.Common.{◌≡◌, ◌≢◌, ℕ, zero, suc, ◌+◌, ◌
 use Rattle.std.proofs.Common.{inl, inr, refl, Bool, true, false, nat_lt, if◌then◌else◌, sym, ap, ◌∙◌, subst, arith}
 use Rattle.std.proofs.lemmas.Bool.{and_parts, false≢true, ltb-true}
 use Rattle.std.proofs.lemmas.List.{length-map}
-use Rattle.codegen.proofs.program_logic_lemmas.Counted.{no_code, Runs, Setting, weaken_runs}
+use Rattle.expression_code.proofs.program_logic_lemmas.Counted.{no_code, Runs, Setting, weaken_runs}
 use Rattle.linked_calls.proofs.Below.{AreBytes, AreData, Arg, argument_code, argument_of, argument_offset}
 use Rattle.linked_calls.proofs.Below.{argument_register, argument_registers, arguments_code, arguments_end}
 use Rattle.linked_calls.proofs.Below.{Array, array_bytes, ByteMap, CanBeCopied, CanBePut, MachineCode}

@@ -3,7 +3,7 @@
 use Rattle.std.specs.Prelude.{is_some}
 use Rattle.std.proofs.Common.{◌≡◌, ℕ, ◌+◌, ◌*◌, ◌<◌, ◌≤◌, List, [], ◌∷◌, ◌++◌, length, inl, inr, refl, sym, ap, ap₂}
 use Rattle.std.proofs.Common.{◌∙◌, subst, arith}
-use Rattle.codegen.proofs.program_logic_lemmas.Counted.{no_code, Setting}
+use Rattle.expression_code.proofs.program_logic_lemmas.Counted.{no_code, Setting}
 use Rattle.linked_calls.proofs.Below.{AreBytes, AreData, argument_offset, arguments_end, Data, array_bytes, array_in, arrays_behind}
 use Rattle.linked_calls.proofs.Below.{arrays_in, ByteMap, MachineCode, copy_out_code, element_bytes, elements_at, Fields, FixedArray, Form}
 use Rattle.linked_calls.proofs.Below.{IsBesides, IsOnStack, MutableArray, Placed, Placed-left, Placed-right}

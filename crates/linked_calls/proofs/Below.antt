@@ -1,27 +1,28 @@
 -- What these proofs take from the layers below and from the specs, in one place.
 pub use Rattle.codegen.proofs.Numbers.{zero_byte}
-pub use Rattle.codegen.proofs.expression_code_lemmas.Arithmetic.{far_address, lower_fits, near_address}
-pub use Rattle.codegen.proofs.expression_code_lemmas.Arithmetic.{upper_fits}
-pub use Rattle.codegen.proofs.expression_code_lemmas.Moves.{register-at, unwritten, written}
-pub use Rattle.codegen.proofs.expression_code_lemmas.OperatorCode.{constant_after, constant_plain}
-pub use Rattle.codegen.proofs.program_logic_lemmas.Computing.{after_append, only_computes}
-pub use Rattle.codegen.proofs.program_logic_lemmas.Computing.{plain_append, registers_after}
-pub use Rattle.codegen.proofs.program_logic_lemmas.Face.{after, after_all, are_straight, AreFit, AreMet, both_left}
-pub use Rattle.codegen.proofs.program_logic_lemmas.Face.{both_right, both_within, found}
-pub use Rattle.codegen.proofs.program_logic_lemmas.Face.{LeadsBy-append, number_or_zero}
-pub use Rattle.codegen.proofs.program_logic_lemmas.Face.{Placed, Placed-left, Placed-right}
-pub use Rattle.codegen.proofs.program_logic_lemmas.Face.{register_kept}
-pub use Rattle.codegen.proofs.program_logic_lemmas.Face.{with_result}
+pub use Rattle.expression_code.proofs.Arithmetic.{far_address, lower_fits, near_address}
+pub use Rattle.expression_code.proofs.Arithmetic.{upper_fits}
+pub use Rattle.expression_code.proofs.Moves.{register-at, unwritten, written}
+pub use Rattle.expression_code.proofs.OperatorCode.{constant_after, constant_plain}
+pub use Rattle.expression_code.proofs.program_logic_lemmas.Computing.{after_append, only_computes}
+pub use Rattle.expression_code.proofs.program_logic_lemmas.Computing.{plain_append, registers_after}
+pub use Rattle.expression_code.proofs.program_logic_lemmas.Face.{after, after_all, are_straight, AreFit, AreMet}
+pub use Rattle.expression_code.proofs.program_logic_lemmas.Face.{both_left}
+pub use Rattle.expression_code.proofs.program_logic_lemmas.Face.{both_right, both_within, found}
+pub use Rattle.expression_code.proofs.program_logic_lemmas.Face.{LeadsBy-append, number_or_zero}
+pub use Rattle.expression_code.proofs.program_logic_lemmas.Face.{Placed, Placed-left, Placed-right}
+pub use Rattle.expression_code.proofs.program_logic_lemmas.Face.{register_kept}
+pub use Rattle.expression_code.proofs.program_logic_lemmas.Face.{with_result}
 pub use Rattle.codegen.specs.Anywhere.{body_words, IsLoaded, Stand}
 pub use Rattle.codegen.specs.Bases.{IsInside}
 pub use Rattle.codegen.specs.Loaded.{array_in, arrays_in, numbers_at, params_of, results_in, with_argument}
 pub use Rattle.codegen.specs.Loaded.{with_arguments, with_numbers, word_in}
-pub use Rattle.codegen.specs.declared.image_fields.slot.ResultSlot.{ResultSlot}
-pub use Rattle.codegen.specs.declared.image_fields.slot.Slot.{Slot}
-pub use Rattle.codegen.specs.expression_code.TermCode.{constant_code, load_code, lower_part, store_code, upper_part}
-pub use Rattle.codegen.specs.image_fields.Fields.{Fields, IsImage}
-pub use Rattle.codegen.specs.program_logic.StraightCode.{IsFit, IsMet}
-pub use Rattle.codegen.specs.program_logic.MachineSteps.{LeadsWithin}
+pub use Rattle.expression_code.specs.declared.image_fields.slot.ResultSlot.{ResultSlot}
+pub use Rattle.expression_code.specs.declared.image_fields.slot.Slot.{Slot}
+pub use Rattle.expression_code.specs.TermCode.{constant_code, load_code, lower_part, store_code, upper_part}
+pub use Rattle.expression_code.specs.image_fields.Fields.{Fields, IsImage}
+pub use Rattle.expression_code.specs.program_logic.StraightCode.{IsFit, IsMet}
+pub use Rattle.expression_code.specs.program_logic.MachineSteps.{LeadsWithin}
 pub use Rattle.hepurita.proofs.DataLemmas.{bytes_within}
 pub use Rattle.hepurita.proofs.ElementLemmas.{is_some-with_numbers, number_there, numbers_at-more}
 pub use Rattle.hepurita.specs.Linked.{IsLinked, RunsLinked}

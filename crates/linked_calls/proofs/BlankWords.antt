@@ -6,8 +6,9 @@ use Rattle.std.proofs.Common.{ap, ◌∙◌, subst, arith, append_assoc, length-
 use Rattle.std.specs.List.{AllByRecursion}
 use Rattle.std.proofs.lemmas.Bool.{and_parts, cases_lt, eqb-false, eqb-true, leb-true, lt-ltb, ltb-true}
 use Rattle.std.proofs.lemmas.Bool.Decides.{nat_tests}
-use Rattle.codegen.proofs.program_logic_lemmas.Counted.{as_code, computes_runs, in_steps, makes_then, no_code, Runs}
-use Rattle.codegen.proofs.program_logic_lemmas.Counted.{Setting, then_runs, weaken_runs}
+use Rattle.expression_code.proofs.program_logic_lemmas.Counted.{as_code, computes_runs, in_steps, makes_then, no_code}
+use Rattle.expression_code.proofs.program_logic_lemmas.Counted.{Runs}
+use Rattle.expression_code.proofs.program_logic_lemmas.Counted.{Setting, then_runs, weaken_runs}
 use Rattle.compilation.specs.Blank.{Blank, IsBlank, IsZeroWord}
 use Rattle.linked_calls.proofs.Below.{added, AreBytes, AreData, AreZeroed, ByteMap, constant_code, Data, difference_of}
 use Rattle.linked_calls.proofs.Below.{frame_steps, HasFrame, Instr, Register, sign_extended, stores_code}

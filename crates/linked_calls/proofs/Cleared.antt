@@ -1,7 +1,7 @@
 -- The code that clears registers, one after another.
 use Rattle.std.specs.Prelude.{not}
 use Rattle.std.proofs.Common.{ℕ, Bool, [], length, refl, ap}
-use Rattle.codegen.proofs.program_logic_lemmas.Counted.{Runs, Setting, silent_runs}
+use Rattle.expression_code.proofs.program_logic_lemmas.Counted.{Runs, Setting, silent_runs}
 use Rattle.linked_calls.proofs.Below.{after_all, AreCleared, clear_registers_code, Data, IsSilent, register_kept}
 use Rattle.linked_calls.proofs.Below.{RegistersAreCleared, scratch_registers}
 use Rattle.linked_calls.proofs.SameRegisters.{all_same, is_none, is_none_of, same_values}

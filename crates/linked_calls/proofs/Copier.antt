@@ -1,6 +1,6 @@
 -- The copier by itself: so many bytes by words or one by one, as the pointer is.
 use Rattle.std.proofs.Common.{◌≡◌, ℕ, ◌+◌, ◌*◌, ◌/◌, ◌%◌, ◌^◌, ◌<◌, inl, inr, refl, sym, ap, ◌∙◌, subst, arith}
-use Rattle.codegen.proofs.program_logic_lemmas.Counted.{in_steps, Runs, Setting, weaken_runs}
+use Rattle.expression_code.proofs.program_logic_lemmas.Counted.{in_steps, Runs, Setting, weaken_runs}
 use Rattle.linked_calls.proofs.Below.{MachineCode, numbers_at, Uint8, with_numbers}
 use Rattle.linked_calls.proofs.Copies.{two_bits, two_bits_back}
 use Rattle.linked_calls.proofs.CopyArrays.{copies_run, IsTested}

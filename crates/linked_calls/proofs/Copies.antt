@@ -8,7 +8,7 @@ use Rattle.std.proofs.lemmas.Bool.{lt-ltb, ltb-false, ltb-true}
 use Rattle.std.proofs.lemmas.Bool.Decides.{nat_tests}
 use Rattle.std.proofs.lemmas.List.{map-id}
 use Rattle.std.proofs.lemmas.Nat.{and_mask, and_or_apart, or_comm}
-use Rattle.codegen.proofs.program_logic_lemmas.Counted.{computes_runs, makes_on, Runs, Setting, weaken_runs}
+use Rattle.expression_code.proofs.program_logic_lemmas.Counted.{computes_runs, makes_on, Runs, Setting, weaken_runs}
 use Rattle.linked_calls.proofs.Below.{argument_code, argument_offset, array_bytes, array_code}
 use Rattle.linked_calls.proofs.Below.{ArrayIsHandedBack, ArrayIsTaken, CanBeCopied, copy_out_code, Data}
 use Rattle.linked_calls.proofs.Below.{element_bytes, Fields, FixedArray, handed_steps, HasArray, Instr, IsArrayTaken}

@@ -6,7 +6,7 @@ use Rattle.std.proofs.Common.{if◌then◌else◌, ◌&&◌, List, [], ◌∷◌
 use Rattle.std.proofs.Common.{◌∙◌, ap₂, subst, arith, length-append}
 use Rattle.std.proofs.lemmas.Bool.{and_parts, eqb-false, eqb-true, leb-true}
 use Rattle.std.proofs.lemmas.List.{map-id}
-use Rattle.codegen.proofs.program_logic_lemmas.Counted.{in_steps, Runs, Setting, weaken_runs}
+use Rattle.expression_code.proofs.program_logic_lemmas.Counted.{in_steps, Runs, Setting, weaken_runs}
 use Rattle.linked_calls.proofs.Alignment.{aligned_runs, TestsPointer, unaligned_runs}
 use Rattle.linked_calls.proofs.Below.{AreApart, AreBytes, array_code, array_steps, Boolean, ByteMap}
 use Rattle.linked_calls.proofs.Below.{copied_code, copied_out_code, copied_steps, Data, element_bytes, elements_code, Instr}

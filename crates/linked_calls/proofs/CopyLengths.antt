@@ -2,7 +2,7 @@
 use Rattle.std.proofs.Common.{◌≡◌, ℕ, zero, suc, ◌+◌, ◌*◌, ◌%◌, ◌<◌, ◌≤◌, nat_lt, Bool, true, false}
 use Rattle.std.proofs.Common.{[], ◌∷◌, length, if◌then◌else◌, refl, arith, length-append}
 use Rattle.std.proofs.lemmas.Bool.{ltb-true}
-use Rattle.codegen.proofs.expression_code_lemmas.TermLengths.{constant_length}
+use Rattle.expression_code.proofs.TermLengths.{constant_length}
 use Rattle.linked_calls.proofs.Below.{Boolean, copied_code, copied_out_code, CopiesAreShort, element_bytes}
 use Rattle.linked_calls.proofs.Below.{elements_code, Instr, Kind, rounds_code}
 use Rattle.linked_calls.proofs.CopyElements.{element_code, few_enough, left_few, round_few}

@@ -7,8 +7,9 @@ use Rattle.std.proofs.Common.{ap, ◌∙◌, subst, arith, append_assoc, length-
 use Rattle.std.proofs.lemmas.Bool.{lt-ltb, ltb-false, ltb-true}
 use Rattle.std.proofs.lemmas.Bool.Decides.{nat_tests}
 use Rattle.std.proofs.lemmas.List.{length-map, map-append}
-use Rattle.codegen.proofs.program_logic_lemmas.Counted.{as_code, computes_runs, in_steps, loop, makes_then, no_code}
-use Rattle.codegen.proofs.program_logic_lemmas.Counted.{Runs, Setting, straight_runs, then_runs, weaken_runs}
+use Rattle.expression_code.proofs.program_logic_lemmas.Counted.{as_code, computes_runs, in_steps, loop, makes_then}
+use Rattle.expression_code.proofs.program_logic_lemmas.Counted.{no_code}
+use Rattle.expression_code.proofs.program_logic_lemmas.Counted.{Runs, Setting, straight_runs, then_runs, weaken_runs}
 use Rattle.linked_calls.proofs.Below.{AreApart, AreData, ByteMap, copied_code, copied_steps, Data}
 use Rattle.linked_calls.proofs.Below.{element_bytes, elements_code, Instr, Kind, near_address, next_code, number_at}
 use Rattle.linked_calls.proofs.Below.{number_or_zero, numbers_at, OthersAsBefore, register_kept}

@@ -7,8 +7,9 @@ use Rattle.std.proofs.Common.{if◌then◌else◌}
 use Rattle.std.proofs.Math.Path.{fun_ext}
 use Rattle.std.proofs.lemmas.Bool.{eqb-false, eqb-true, lt-ltb}
 use Rattle.std.proofs.lemmas.Bool.Decides.{nat_tests}
-use Rattle.codegen.proofs.program_logic_lemmas.Counted.{as_code, computes_runs, in_steps, makes_then, no_code, Runs, Setting}
-use Rattle.codegen.proofs.program_logic_lemmas.Counted.{weaken_runs}
+use Rattle.expression_code.proofs.program_logic_lemmas.Counted.{as_code, computes_runs, in_steps, makes_then, no_code}
+use Rattle.expression_code.proofs.program_logic_lemmas.Counted.{Runs, Setting}
+use Rattle.expression_code.proofs.program_logic_lemmas.Counted.{weaken_runs}
 use Rattle.linked_calls.proofs.Below.{above_code, added, AreData, argument_registers, ByteMap, Data, Instr, register}
 use Rattle.linked_calls.proofs.Below.{is_some-with_numbers, register-at, sign_extended, stores_code, sum_of, with_numbers}
 use Rattle.linked_calls.proofs.Below.{unwritten, with_register, with_result}

@@ -5,7 +5,7 @@ use Rattle.std.proofs.Common.{[], None, Option}
 use Rattle.std.proofs.Common.{◌∷◌, ◌++◌, length, map, Some, inl, inr, ⊎_elim, refl, sym, ap, ◌∙◌, subst, arith, length-append}
 use Rattle.std.proofs.lemmas.Bool.{cases_lt, ltb-false, ltb-true}
 use Rattle.std.proofs.lemmas.List.{length-map}
-use Rattle.codegen.proofs.program_logic_lemmas.Counted.{makes_then, Runs, Setting}
+use Rattle.expression_code.proofs.program_logic_lemmas.Counted.{makes_then, Runs, Setting}
 use Rattle.linked_calls.proofs.Below.{above_frame, AreBytes, AreData, first_argument}
 use Rattle.linked_calls.proofs.Below.{arguments_end, arguments_of, at}
 use Rattle.linked_calls.proofs.Below.{arguments_code, ByteMap, MachineCode, Data, entry_code, Fields, found, Instr}

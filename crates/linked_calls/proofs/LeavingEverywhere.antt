@@ -7,7 +7,7 @@ use Rattle.std.proofs.Common.{◌≡◌, ℕ, suc, ◌+◌, ◌*◌, ◌%◌, �
 use Rattle.std.proofs.Common.{List, [], ◌∷◌, ◌++◌, length, Option}
 use Rattle.std.proofs.Common.{Some, None, drop, inl, refl, sym, ap, ◌∙◌, subst, arith, length-append}
 use Rattle.std.proofs.lemmas.List.Elements.{All-head}
-use Rattle.codegen.proofs.program_logic_lemmas.Counted.{computes_runs, Runs, Setting, weaken_runs}
+use Rattle.expression_code.proofs.program_logic_lemmas.Counted.{computes_runs, Runs, Setting, weaken_runs}
 use Rattle.linked_calls.proofs.Below.{AreZeroed, arguments_end, arrays_in, at, ByteMap}
 use Rattle.linked_calls.proofs.Below.{clear_registers_code, MachineCode, Data, Fields, frame_room}
 use Rattle.linked_calls.proofs.Below.{Instr, IsAt, IsImage, IsLeft, IsOfCall, IsSite, JumpRegister}
@@ -36,8 +36,8 @@ use Rattle.linked_calls.proofs.Rooms.{RoomNumbers, room_numbers}
 use Rattle.linked_calls.proofs.SameRegisters.{IsNone, all_same, same_beside, same_then, still_same}
 use Rattle.linked_calls.proofs.SavedRegisters.{saved_same}
 use Rattle.linked_calls.proofs.Standing.{last_placed, leave_placed, results_copier}
-use Rattle.codegen.proofs.program_logic_lemmas.Pieces.{stop_here}
-use Rattle.codegen.specs.program_logic.Pieces.{always}
+use Rattle.expression_code.proofs.program_logic_lemmas.Pieces.{stop_here}
+use Rattle.expression_code.specs.program_logic.Pieces.{always}
 use Rattle.linked_calls.specs.Callable.{return_at}
 use Rattle.linked_calls.specs.Calls.{onward_at, tail_ahead, tail_at}
 use Rattle.linked_calls.specs.FunctionCode.{end_code, onward_code, shared_tail, tail_code, tail_entry, up_to_last}

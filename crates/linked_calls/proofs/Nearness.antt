@@ -2,7 +2,7 @@
 use Rattle.std.proofs.Common.{◌≡◌, ℕ, ◌+◌, ◌*◌, ◌^◌, ◌<◌, ◌≤◌, ◌==◌, ◌&&◌, Bool, true, false, nat_lt, if◌then◌else◌, List}
 use Rattle.std.proofs.Common.{[], ◌∷◌, ◌++◌, length, Option, Some, None, refl, arith, length-append}
 use Rattle.std.proofs.lemmas.Bool.{and_parts, ltb-true}
-use Rattle.codegen.proofs.expression_code_lemmas.TermLengths.{constant_length, load_length, one_of, store_length}
+use Rattle.expression_code.proofs.TermLengths.{constant_length, load_length, one_of, store_length}
 use Rattle.linked_calls.proofs.Below.{address_code, argument_code, argument_register, arguments_code, body_words, Boolean}
 use Rattle.linked_calls.proofs.Below.{copied_code, copy_out_code, Fields, FixedArray, Form, Instr, Kind}
 use Rattle.linked_calls.proofs.Below.{kept_of, leave_code, load_code, meant_code, MutableArray}

@@ -7,8 +7,8 @@ use Rattle.std.proofs.Common.{eq-eqb, ne_eqb, if◌then◌else◌}
 use Rattle.std.proofs.Math.Path.{fun_ext}
 use Rattle.std.proofs.lemmas.Bool.{eqb-false, false≢true, lt-ltb, ltb-true}
 use Rattle.std.proofs.lemmas.Bool.Decides.{nat_tests}
-use Rattle.codegen.proofs.program_logic_lemmas.Counted.{computes_runs, having, Runs, Setting, weaken_runs}
-use Rattle.codegen.proofs.program_logic_lemmas.Counted.{straight_runs}
+use Rattle.expression_code.proofs.program_logic_lemmas.Counted.{computes_runs, having, Runs, Setting, weaken_runs}
+use Rattle.expression_code.proofs.program_logic_lemmas.Counted.{straight_runs}
 use Rattle.linked_calls.proofs.Below.{Add, address_code, after, after_all, after_append, are_straight, AreData}
 use Rattle.linked_calls.proofs.Below.{AreFit, AreMet, both_left, both_right, constant_after, constant_code}
 use Rattle.linked_calls.proofs.Below.{constant_plain, Data, far_address, Instr, is_some-with_number, IsMet, load_code}

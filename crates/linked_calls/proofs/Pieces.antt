@@ -1,6 +1,6 @@
 -- Pieces of code as they are promised: what they do from an address on, where their words stand.
 use Rattle.std.proofs.Common.{ℕ, ◌+◌, List, [], ◌∷◌, Some}
-use Rattle.codegen.proofs.program_logic_lemmas.Counted.{Runs, Setting}
+use Rattle.expression_code.proofs.program_logic_lemmas.Counted.{Runs, Setting}
 use Rattle.linked_calls.proofs.Below.{AreThere, MachineCode, Data, Does, Event, Instr, LiesIn, Placed, Size}
 use Rattle.linked_calls.proofs.PlacedRuns.{does_here, here}
 

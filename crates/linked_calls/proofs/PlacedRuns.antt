@@ -2,12 +2,12 @@
 -- one address.
 use Rattle.std.proofs.Common.{◌≡◌, ℕ, ◌+◌, ◌*◌, List, [], ◌++◌, length, Option, Some, None, refl, sym, ap}
 use Rattle.std.proofs.Common.{subst, arith, length-append}
-use Rattle.codegen.proofs.program_logic_lemmas.Counted.{Runs, Setting, setting}
-use Rattle.codegen.proofs.program_logic_lemmas.Pieces.{ends_to, then_ends}
-use Rattle.codegen.specs.program_logic.MachineSteps.{exactly}
-use Rattle.codegen.specs.program_logic.Pieces as logic
-use Rattle.codegen.specs.program_logic.Pieces.{none}
-use Rattle.codegen.specs.program_logic.StraightCode.{contents_of}
+use Rattle.expression_code.proofs.program_logic_lemmas.Counted.{Runs, Setting, setting}
+use Rattle.expression_code.proofs.program_logic_lemmas.Pieces.{ends_to, then_ends}
+use Rattle.expression_code.specs.program_logic.MachineSteps.{exactly}
+use Rattle.expression_code.specs.program_logic.Pieces as logic
+use Rattle.expression_code.specs.program_logic.Pieces.{none}
+use Rattle.expression_code.specs.program_logic.StraightCode.{contents_of}
 use Rattle.linked_calls.proofs.Below.{AreThere, at, Data, Does, Instr, LeadsWithin, MachineCode, Observation, Placed}
 use Rattle.linked_calls.proofs.Below.{State}
 use Rattle.linked_calls.specs.Copies.{CopierStands}

@@ -3,8 +3,8 @@ use Rattle.std.specs.Prelude.{is_some}
 use Rattle.std.proofs.Common.{◌≡◌, ◌≢◌, ℕ, ◌+◌, ◌*◌, ◌%◌, ◌^◌, ◌<◌, ◌≤◌, ◌==◌, List, [], ◌∷◌, ◌++◌, length, All, refl}
 use Rattle.std.proofs.Common.{sym, ap, ◌∙◌, subst, arith}
 use Rattle.std.proofs.lemmas.Bool.{lt-ltb}
-use Rattle.codegen.proofs.program_logic_lemmas.Counted.{computes_runs, in_steps, makes_then, Runs, Setting}
-use Rattle.codegen.proofs.program_logic_lemmas.Counted.{then_runs}
+use Rattle.expression_code.proofs.program_logic_lemmas.Counted.{computes_runs, in_steps, makes_then, Runs, Setting}
+use Rattle.expression_code.proofs.program_logic_lemmas.Counted.{then_runs}
 use Rattle.linked_calls.proofs.Below.{added, address_code, AreCleared, AreData, AreZeroed, ByteMap, clear_registers_code}
 use Rattle.linked_calls.proofs.Below.{Data, HasRoomBounds, Instr, loads_code, near_address, blocks_steps}
 use Rattle.linked_calls.proofs.Below.{saved_registers, scratch_registers, sign_extended, sum_of, unwritten, wipe_code}

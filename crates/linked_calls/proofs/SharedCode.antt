@@ -4,13 +4,13 @@ use Rattle.std.proofs.Common.{◌≡◌, ℕ, ◌+◌, ◌-◌, ◌*◌, ◌/◌
 use Rattle.std.proofs.Common.{length, None, refl, sym, ap, ap₂, ◌∙◌, subst, arith}
 use Rattle.std.proofs.Math.Path.{fun_ext}
 use Rattle.std.proofs.lemmas.Bool.Decides.{nat_tests}
-use Rattle.codegen.proofs.program_logic_lemmas.Counted.{Runs, Setting, setting}
-use Rattle.codegen.proofs.program_logic_lemmas.Jumps.{shown_at}
-use Rattle.codegen.proofs.program_logic_lemmas.Pieces.{ends_to, step_ends, then_ends}
-use Rattle.codegen.proofs.program_logic_lemmas.PlacedLaws.{Placed-left, Placed-right, stands}
-use Rattle.codegen.specs.program_logic.MachineSteps.{exactly}
-use Rattle.codegen.specs.program_logic.Pieces.{always, both, Ends}
-use Rattle.codegen.specs.program_logic.StraightCode.{contents_of}
+use Rattle.expression_code.proofs.program_logic_lemmas.Counted.{Runs, Setting, setting}
+use Rattle.expression_code.proofs.program_logic_lemmas.Jumps.{shown_at}
+use Rattle.expression_code.proofs.program_logic_lemmas.Pieces.{ends_to, step_ends, then_ends}
+use Rattle.expression_code.proofs.program_logic_lemmas.PlacedLaws.{Placed-left, Placed-right, stands}
+use Rattle.expression_code.specs.program_logic.MachineSteps.{exactly}
+use Rattle.expression_code.specs.program_logic.Pieces.{always, both, Ends}
+use Rattle.expression_code.specs.program_logic.StraightCode.{contents_of}
 use Rattle.linked_calls.proofs.Below.{ByteMap, Data, Instr, JumpRegister, near_address, next, Placed, register_target}
 use Rattle.linked_calls.proofs.Below.{sign_extended, State, sum_of, with_link, with_register, with_result}
 use Rattle.linked_calls.proofs.PlacedRuns.{RunsHere, RunsTo}

@@ -3,7 +3,7 @@ use Rattle.std.proofs.Common.{ℕ, ◌%◌, ◌==◌, Bool, true, false, if◌th
 use Rattle.linked_calls.proofs.Below.{AreBytes, goes_on, MachineCode, next, number_at, Observation, State, Step}
 use Rattle.linked_calls.proofs.ByteData.{number_stays}
 use Rattle.linked_calls.specs.Below.{Event}
-use Rattle.codegen.specs.program_logic.MachineSteps.{LeadsBy, stays_by, steps_by}
+use Rattle.expression_code.specs.program_logic.MachineSteps.{LeadsBy, stays_by, steps_by}
 use Rattle.rv_code.specs.declared.operations.LoadOperation.{LoadOperation}
 use Rattle.rv_machine.proofs.Face.{moved_to-bytes, with_link-bytes, with_value-bytes}
 use Rattle.rv_machine.specs.Effects.{effect_of, load_size, store_size}

@@ -10,7 +10,7 @@ use Rattle.linked_calls.proofs.Below.{MachineCode, Observation, Stand, State, St
 use Rattle.linked_calls.proofs.Below.{goes_on, Instr, next, number_at, unwritten}
 use Rattle.linked_calls.specs.Below.{Event}
 use Rattle.linked_calls.specs.Written.{is_written, writes}
-use Rattle.codegen.specs.program_logic.MachineSteps.{LeadsBy, stays_by, steps_by}
+use Rattle.expression_code.specs.program_logic.MachineSteps.{LeadsBy, stays_by, steps_by}
 use Rattle.rv_code.specs.Operations.{divide_row, immediate_row, load_row, multiply_row, register_row, shift_row}
 use Rattle.rv_code.specs.Words.{i_type, IsInstr, j_type, r_type, u_type}
 unfoldable use Rattle.rv_code.specs.Words.{word_of}

@@ -7,8 +7,8 @@ use Rattle.std.proofs.Math.Path.{fun_ext}
 use Rattle.std.proofs.lemmas.Bool.{lt-ltb, ltb-false, ltb-true}
 use Rattle.std.proofs.lemmas.Bool.Decides.{nat_tests}
 use Rattle.std.proofs.lemmas.Nat.{and_mask}
-use Rattle.codegen.proofs.program_logic_lemmas.Counted.{as_straight, computes_runs, makes_on, Runs, Setting}
-use Rattle.codegen.proofs.program_logic_lemmas.Counted.{weaken_runs}
+use Rattle.expression_code.proofs.program_logic_lemmas.Counted.{as_straight, computes_runs, makes_on, Runs, Setting}
+use Rattle.expression_code.proofs.program_logic_lemmas.Counted.{weaken_runs}
 use Rattle.linked_calls.proofs.Below.{AreData, Boolean, ByteMap, CanBePut, Instr}
 use Rattle.linked_calls.proofs.Below.{register, register-at, stacked_offset, store_code, with_argument}
 use Rattle.linked_calls.proofs.Below.{written}

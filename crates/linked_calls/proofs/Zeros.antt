@@ -6,8 +6,9 @@ use Rattle.std.proofs.Common.{length-append, if◌then◌else◌}
 use Rattle.std.specs.Prelude.{replicate}
 use Rattle.std.proofs.lemmas.Bool.{eqb-false, eqb-true}
 use Rattle.std.proofs.lemmas.Bool.Decides.{nat_tests}
-use Rattle.codegen.proofs.program_logic_lemmas.Counted.{as_code, computes_runs, in_steps, loop, makes_then, no_code}
-use Rattle.codegen.proofs.program_logic_lemmas.Counted.{Runs, Setting, weaken_runs}
+use Rattle.expression_code.proofs.program_logic_lemmas.Counted.{as_code, computes_runs, in_steps, loop, makes_then}
+use Rattle.expression_code.proofs.program_logic_lemmas.Counted.{no_code}
+use Rattle.expression_code.proofs.program_logic_lemmas.Counted.{Runs, Setting, weaken_runs}
 use Rattle.linked_calls.proofs.Below.{added, AreData, AreZeroed, blocks_steps, ByteMap, MachineCode, constant_code, Data}
 use Rattle.linked_calls.proofs.Below.{difference_of, down_code, frame_steps, FrameIsZeroed, HasFrame}
 use Rattle.linked_calls.proofs.Below.{HasRoomBounds, Instr, IsStoreIn, IsWiped, IsZeroFrame, Register}

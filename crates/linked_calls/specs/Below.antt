@@ -25,13 +25,14 @@ pub use Rattle.language.specs.declared.values.Arg.{Arg}
 pub use Rattle.language.specs.declared.values.Arg.TheVariants.{Array}
 pub use Rattle.codegen.specs.Anywhere.{body_words, BodyRun, IsBeside, IsPlaced, Stand}
 pub use Rattle.codegen.specs.Loaded.{numbers_at, params_of, with_argument, with_numbers, word_in}
-pub use Rattle.codegen.specs.expression_code.TermCode.{constant_code, cut_code, is_not_zero_code, load_by, load_code}
-pub use Rattle.codegen.specs.expression_code.TermCode.{store_code}
-pub use Rattle.codegen.specs.image_fields.Fields.{AreSlots, Fields, is_length, IsImage, IsResultSlot, result_end}
-pub use Rattle.codegen.specs.image_fields.Fields.{slot_bytes, slot_end, slots_end}
-pub use Rattle.codegen.specs.program_logic.Jumps.{over}
-pub use Rattle.codegen.specs.program_logic.StraightCode.{Contents}
-pub use Rattle.codegen.specs.program_logic.StraightCode.{state_at}
-pub use Rattle.codegen.specs.program_logic.MachineSteps.{LeadsWithin}
-pub use Rattle.codegen.specs.declared.image_fields.slot.ResultSlot.{ResultSlot}
-pub use Rattle.codegen.specs.declared.image_fields.slot.Slot.{Slot}
+pub use Rattle.expression_code.specs.TermCode.{constant_code, cut_code, is_not_zero_code, load_by, load_code}
+pub use Rattle.expression_code.specs.TermCode.{store_code}
+pub use Rattle.expression_code.specs.image_fields.Fields.{AreSlots, Fields, is_length, IsImage, IsResultSlot}
+pub use Rattle.expression_code.specs.image_fields.Fields.{result_end}
+pub use Rattle.expression_code.specs.image_fields.Fields.{slot_bytes, slot_end, slots_end}
+pub use Rattle.expression_code.specs.program_logic.Jumps.{over}
+pub use Rattle.expression_code.specs.program_logic.StraightCode.{Contents}
+pub use Rattle.expression_code.specs.program_logic.StraightCode.{state_at}
+pub use Rattle.expression_code.specs.program_logic.MachineSteps.{LeadsWithin}
+pub use Rattle.expression_code.specs.declared.image_fields.slot.ResultSlot.{ResultSlot}
+pub use Rattle.expression_code.specs.declared.image_fields.slot.Slot.{Slot}

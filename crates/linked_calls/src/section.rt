@@ -1,7 +1,7 @@
 // What the code of a function is made of.
 
 use crate::Round;
-use codegen::image_fields::Slot;
+use expression_code::image_fields::Slot;
 
 /// A part of a function's code, with one purpose.
 #[derive(Clone, Copy, Debug, PartialEq, Eq)]

@@ -16,6 +16,6 @@ pub use Rattle.language.specs.Tree.{ProcedureTree, ProgramTree}
 pub use Rattle.language.specs.declared.arguments.fault.ArgumentFault.{ArgumentFault}
 pub use Rattle.language.specs.declared.values.Arg.{Arg}
 pub use Rattle.codegen.specs.Loaded.{code_at, loaded_at, params_of, results_in}
-pub use Rattle.codegen.specs.image_fields.Fields.{Fields}
+pub use Rattle.expression_code.specs.image_fields.Fields.{Fields}
 pub use Rattle.hepurita.specs.Bases.{code_base, frame_base}
 pub use Rattle.hepurita.specs.Uncut.{ImageEnds, RunsFor, RunsUncut}

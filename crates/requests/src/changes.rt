@@ -1,10 +1,10 @@
 // What comes of an image's bytes where one of them is another.
 
 ghost use Rattle.std.specs.Prelude.{◌≡◌, ◌<◌, map, length, IfOk};
-ghost use Rattle.codegen.specs.declared.image_fields.slot.Slot.{Slot};
+ghost use Rattle.expression_code.specs.declared.image_fields.slot.Slot.{Slot};
 
 use crate::fault::RequestsFault;
-use codegen::image_fields::Slot;
+use expression_code::image_fields::Slot;
 use hepurita::{RunFault, execute};
 use image::{Image, ImageFault, read};
 use language::{Arg, Args, Form, Numbers};

@@ -6,9 +6,9 @@ use Rattle.codegen.specs.declared.comparing.Comparison.{Comparison}
 use Rattle.codegen.specs.declared.jumping.Test.{Test}
 use Rattle.codegen.specs.private.Jumps.{branch_code, unless_code}
 use Rattle.codegen.specs.private.Words.{gives_zero, read_code, read_register}
-use Rattle.codegen.specs.expression_code.Allocation.{Allocation}
-use Rattle.codegen.specs.expression_code.Layout.{Frame}
-use Rattle.codegen.specs.expression_code.Registers.{zero_register, value_register, second_register}
+use Rattle.expression_code.specs.Allocation.{Allocation}
+use Rattle.expression_code.specs.Layout.{Frame}
+use Rattle.expression_code.specs.Registers.{zero_register, value_register, second_register}
 use Rattle.codegen.specs.Below.{Beq, Bgeu, binary, BinaryOperator, Bltu, Bne, Equal, Greater}
 use Rattle.codegen.specs.Below.{GreaterOrEqual, Instr, Less, LessOrEqual, TermTree, Unequal}
 

@@ -14,19 +14,19 @@ pub use Rattle.codegen.specs.private.Words.{assign_code, home_of_term, home_or, 
 pub use Rattle.codegen.specs.private.Words.{gives_zero, read_register, stored_code, stored_register}
 pub use Rattle.codegen.specs.private.Words.{unless_home}
 pub use Rattle.codegen.specs.private.WordPuts.{word_code, word_put}
-use Rattle.codegen.specs.expression_code.Allocation.{is_unread, register_of}
-use Rattle.codegen.specs.expression_code.Layout.{Frame, variable_offset, variable_location, control_location}
-use Rattle.codegen.specs.expression_code.Layout.{term_layout}
-use Rattle.codegen.specs.expression_code.Registers.{zero_register, frame_register, value_register, second_register}
-use Rattle.codegen.specs.expression_code.Registers.{third_register, address_register, first_spare}
-use Rattle.codegen.specs.expression_code.TermCode.{is_near, upper_part, lower_part, load_code, store_code}
-use Rattle.codegen.specs.expression_code.TermCode.{constant_code}
-use Rattle.codegen.specs.expression_code.TermCode.{address_code, load_by, kind_at, near_place, near_code, code_by}
-use Rattle.codegen.specs.expression_code.TermCode.{fetch_code, in_frame, into_code, computed_index, access_offset}
-use Rattle.codegen.specs.expression_code.TermCode.{mirror_code}
-use Rattle.codegen.specs.declared.expression_code.emit.NearPlace.{NearPlace}
-use Rattle.codegen.specs.declared.expression_code.locations.Location.{Location}
-use Rattle.codegen.specs.declared.expression_code.locations.Location.TheVariants.{InRegister, InSlot}
+use Rattle.expression_code.specs.Allocation.{is_unread, register_of}
+use Rattle.expression_code.specs.Layout.{Frame, variable_offset, variable_location, control_location}
+use Rattle.expression_code.specs.Layout.{term_layout}
+use Rattle.expression_code.specs.Registers.{zero_register, frame_register, value_register, second_register}
+use Rattle.expression_code.specs.Registers.{third_register, address_register, first_spare}
+use Rattle.expression_code.specs.TermCode.{is_near, upper_part, lower_part, load_code, store_code}
+use Rattle.expression_code.specs.TermCode.{constant_code}
+use Rattle.expression_code.specs.TermCode.{address_code, load_by, kind_at, near_place, near_code, code_by}
+use Rattle.expression_code.specs.TermCode.{fetch_code, in_frame, into_code, computed_index, access_offset}
+use Rattle.expression_code.specs.TermCode.{mirror_code}
+use Rattle.expression_code.specs.declared.emit.NearPlace.{NearPlace}
+use Rattle.expression_code.specs.declared.locations.Location.{Location}
+use Rattle.expression_code.specs.declared.locations.Location.TheVariants.{InRegister, InSlot}
 
 -- A control value is a mask: all ones where it is true, and 0 where it is not. It is in its home, or in its slot, or
 -- nowhere, where nothing reads it.

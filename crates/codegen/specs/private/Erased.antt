@@ -1,10 +1,10 @@
 -- The instructions that are emitted for a variable that becomes 0 where a control value is true.
 use Rattle.std.specs.Prelude.{ℕ, List, [], ◌∷◌, ◌++◌}
-use Rattle.codegen.specs.expression_code.Allocation.{register_of}
-use Rattle.codegen.specs.expression_code.Registers.{value_register, second_register, third_register}
-use Rattle.codegen.specs.expression_code.TermCode.{fetch_code, load_code, store_code}
-use Rattle.codegen.specs.declared.expression_code.locations.Location.{Location}
-use Rattle.codegen.specs.declared.expression_code.locations.Location.TheVariants.{InRegister, InSlot}
+use Rattle.expression_code.specs.Allocation.{register_of}
+use Rattle.expression_code.specs.Registers.{value_register, second_register, third_register}
+use Rattle.expression_code.specs.TermCode.{fetch_code, load_code, store_code}
+use Rattle.expression_code.specs.declared.locations.Location.{Location}
+use Rattle.expression_code.specs.declared.locations.Location.TheVariants.{InRegister, InSlot}
 use Rattle.codegen.specs.Below.{And, Immediate, Instr, Register, Xori}
 
 -- of two registers, 0 where the mask is all ones, and the old word where it is 0, into another; t is written too

@@ -5,7 +5,7 @@ use Rattle.std.specs.Prelude.{Option, None, Some, is_none, if◌then◌else◌}
 use Rattle.codegen.specs.Below.{array, binary, branch, convert, element, first, nothing, number, prefix, put, repeats}
 use Rattle.codegen.specs.Below.{rotate, select, set, StraightBlock, StraightProgram, StraightTree, take, TermTree}
 use Rattle.codegen.specs.Below.{truth, variable}
-use Rattle.codegen.specs.expression_code.NearElements.{is_near}
+use Rattle.expression_code.specs.NearElements.{is_near}
 
 -- whether an expression names a variable
 abbrev pub names_in : ℕ → TermTree → Bool

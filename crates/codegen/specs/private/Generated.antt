@@ -5,16 +5,16 @@ use Rattle.std.specs.Prelude.{if◌then◌else◌}
 use Rattle.std.specs.Option.{option_map}
 use Rattle.codegen.specs.Below.{depth_in_all, Ecall, FlatVariable, Instr, program_height, StraightProgram, TermTree}
 use Rattle.codegen.specs.Below.{word_of, WordType}
-use Rattle.codegen.specs.image_fields.Fields.{Fields}
-use Rattle.codegen.specs.declared.image_fields.slot.ResultSlot.{ResultSlot}
+use Rattle.expression_code.specs.image_fields.Fields.{Fields}
+use Rattle.expression_code.specs.declared.image_fields.slot.ResultSlot.{ResultSlot}
 use Rattle.codegen.specs.private.Emitted.{block_code, assign_code}
 use Rattle.codegen.specs.private.Fresh.{homes_but, starts_fresh}
 use Rattle.codegen.specs.private.Homes.{is_no_array}
-use Rattle.codegen.specs.expression_code.Allocation.{Allocation, home_of, slots_to}
-use Rattle.codegen.specs.declared.expression_code.allocation.Mirror.{Mirror}
-use Rattle.codegen.specs.expression_code.Layout.{Frame, slots_from, result_offset, slotted, temporaries_offset}
-use Rattle.codegen.specs.expression_code.Layout.{word_offset}
-use Rattle.codegen.specs.expression_code.TermCode.{constant_code, load_code, mirror_by}
+use Rattle.expression_code.specs.Allocation.{Allocation, home_of, slots_to}
+use Rattle.expression_code.specs.declared.allocation.Mirror.{Mirror}
+use Rattle.expression_code.specs.Layout.{Frame, slots_from, result_offset, slotted, temporaries_offset}
+use Rattle.expression_code.specs.Layout.{word_offset}
+use Rattle.expression_code.specs.TermCode.{constant_code, load_code, mirror_by}
 
 -- the value into the result's slot, where there is one
 abbrev pub result_code : Frame → Option TermTree → List Instr

@@ -3,11 +3,11 @@ use Rattle.std.specs.Prelude.{◌≡◌, ℕ, ◌+◌, ◌*◌, ◌^◌, ◌<◌
 use Rattle.codegen.specs.declared.jumping.Test.{Test}
 use Rattle.codegen.specs.declared.unemitted.Unemitted.{Unemitted}
 use Rattle.codegen.specs.declared.unemitted.Unemitted.TheVariants.{TooFar}
-use Rattle.codegen.specs.expression_code.Registers.{zero_register, value_register}
-use Rattle.codegen.specs.program_logic.Jumps as jumps
-pub use Rattle.codegen.specs.program_logic.Jumps.{skip, over, back, branch_code}
-use Rattle.codegen.specs.program_logic.Tests as tests
-pub use Rattle.codegen.specs.program_logic.Tests.{leave}
+use Rattle.expression_code.specs.Registers.{zero_register, value_register}
+use Rattle.expression_code.specs.program_logic.Jumps as jumps
+pub use Rattle.expression_code.specs.program_logic.Jumps.{skip, over, back, branch_code}
+use Rattle.expression_code.specs.program_logic.Tests as tests
+pub use Rattle.expression_code.specs.program_logic.Tests.{leave}
 use Rattle.codegen.specs.Below.{Instr}
 
 -- the first list unless two registers pass a test, and else the second

@@ -7,11 +7,11 @@ use Rattle.codegen.specs.Below.{Addi, array, branch, first, Immediate, Instr, no
 use Rattle.codegen.specs.Below.{Register, repeats, set, Sltiu, Sltu, StraightBlock, StraightTree, take, TermTree}
 use Rattle.codegen.specs.private.Jumps.{again_code, branch_code, loop_code}
 use Rattle.codegen.specs.private.Words.{assign_code, put_word_code, read_code, read_register}
-use Rattle.codegen.specs.expression_code.Layout.{Frame, next_offset, variable_location}
-use Rattle.codegen.specs.expression_code.Registers.{value_register, second_register, zero_register}
-use Rattle.codegen.specs.expression_code.TermCode.{is_near, load_code, lower_part, mirror_code, move_code, store_code}
-use Rattle.codegen.specs.declared.expression_code.locations.Location.{Location}
-use Rattle.codegen.specs.declared.expression_code.locations.Location.TheVariants.{InRegister, InSlot}
+use Rattle.expression_code.specs.Layout.{Frame, next_offset, variable_location}
+use Rattle.expression_code.specs.Registers.{value_register, second_register, zero_register}
+use Rattle.expression_code.specs.TermCode.{is_near, load_code, lower_part, mirror_code, move_code, store_code}
+use Rattle.expression_code.specs.declared.locations.Location.{Location}
+use Rattle.expression_code.specs.declared.locations.Location.TheVariants.{InRegister, InSlot}
 
 -- Which loops count.
 

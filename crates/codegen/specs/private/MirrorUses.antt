@@ -8,7 +8,7 @@ use Rattle.codegen.specs.Below.{nothing, number, prefix, put, repeats, rotate, s
 use Rattle.codegen.specs.Below.{StraightProgram, StraightTree, take, TermTree, truth, Uint16, Uint32, Uint8, used}
 use Rattle.codegen.specs.Below.{variable, weight_inside}
 use Rattle.codegen.specs.private.Uses.{used_within, word_weights_of}
-use Rattle.codegen.specs.expression_code.TermCode.{kind_at}
+use Rattle.expression_code.specs.TermCode.{kind_at}
 
 -- the variable that an index follows
 abbrev pub followed : TermTree → Option ℕ

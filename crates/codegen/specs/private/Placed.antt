@@ -2,9 +2,9 @@
 use Rattle.std.specs.Prelude.{ℕ, ◌+◌, ◌*◌, ◌<◌, ◌≤◌, List, [], ◌∷◌, length}
 use Rattle.codegen.specs.Below.{array, branch, first, height_of, IsAmong as IsControl, nothing, put}
 use Rattle.codegen.specs.Below.{repeats, set, StraightBlock, StraightTree, take, TermTree}
-use Rattle.codegen.specs.expression_code.Allocation.{slots_to}
-use Rattle.codegen.specs.expression_code.Layout.{Frame, variable_offset, temporaries_offset}
-use Rattle.codegen.specs.expression_code.TermCode.{IsAmong}
+use Rattle.expression_code.specs.Allocation.{slots_to}
+use Rattle.expression_code.specs.Layout.{Frame, variable_offset, temporaries_offset}
+use Rattle.expression_code.specs.TermCode.{IsAmong}
 
 -- in a layout, an expression over its variables into a place
 abbrev pub IsPlaced : Frame → ℕ → TermTree → Type 0

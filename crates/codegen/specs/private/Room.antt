@@ -8,7 +8,7 @@ use Rattle.codegen.specs.Below.{value_nodes}
 pub use Rattle.codegen.specs.private.Generated.{frame_of}
 use Rattle.codegen.specs.private.Generated.{home_count, mirror_count}
 use Rattle.codegen.specs.private.Reads.{AllReadKept}
-use Rattle.codegen.specs.expression_code.Allocation.{Allocation, IsAllocation}
+use Rattle.expression_code.specs.Allocation.{Allocation, IsAllocation}
 use Rattle.inline.specs.Limits.{most_variable_bytes}
 
 pub record HasRoom (p : StraightProgram) : Type 0 where

@@ -1,7 +1,7 @@
 -- What is put into an element: the store of a byte or of a half cuts its value itself, so a conversion to the element's
 -- own kind needs no instruction.
 use Rattle.std.specs.Prelude.{Bool, true, false, if◌then◌else◌}
-use Rattle.codegen.specs.expression_code.Allocation.{Allocation}
+use Rattle.expression_code.specs.Allocation.{Allocation}
 use Rattle.codegen.specs.Below.{convert, Kind, TermTree, Uint16, Uint8}
 
 -- whether the store of an element of one kind cuts a value as a conversion to the other does

@@ -4,10 +4,10 @@ use Rattle.std.specs.Prelude.{ℕ, ◌+◌, ◌/◌, ◌%◌, ◌==◌, ◌&&◌
 use Rattle.codegen.specs.declared.word_puts.BytePut.{BytePut}
 use Rattle.codegen.specs.declared.word_puts.WordByte.{WordByte}
 use Rattle.codegen.specs.declared.word_puts.WordPut.{WordPut}
-use Rattle.codegen.specs.expression_code.Allocation.{Allocation}
-use Rattle.codegen.specs.expression_code.Layout.{Frame}
-use Rattle.codegen.specs.expression_code.NearElements.{kind_at, near_element}
-use Rattle.codegen.specs.expression_code.NumberRows.{number_of}
+use Rattle.expression_code.specs.Allocation.{Allocation}
+use Rattle.expression_code.specs.Layout.{Frame}
+use Rattle.expression_code.specs.NearElements.{kind_at, near_element}
+use Rattle.expression_code.specs.NumberRows.{number_of}
 use Rattle.codegen.specs.private.StoredValues.{stored_value}
 use Rattle.codegen.specs.private.Words.{assign_code}
 use Rattle.codegen.specs.Below.{binary, first, FlatVariable, Instr, Kind, put, ShiftRight, StraightBlock, StraightTree}

@@ -1,13 +1,13 @@
 -- The instructions that are emitted for words: an expression's value is read where it is, and put where it belongs.
 use Rattle.std.specs.Prelude.{ℕ, Bool, List, [], ◌++◌, Option, None, Some, if◌then◌else◌}
-use Rattle.codegen.specs.expression_code.Allocation.{Allocation}
-use Rattle.codegen.specs.expression_code.Layout.{Frame, term_layout}
-use Rattle.codegen.specs.expression_code.NumberRows.{chooses_zero}
-use Rattle.codegen.specs.expression_code.Registers.{zero_register, value_register}
-pub use Rattle.codegen.specs.expression_code.TermCode.{home_of_term}
-use Rattle.codegen.specs.expression_code.TermCode.{into_code, move_code, store_code}
-use Rattle.codegen.specs.declared.expression_code.locations.Location.{Location}
-use Rattle.codegen.specs.declared.expression_code.locations.Location.TheVariants.{InRegister, InSlot}
+use Rattle.expression_code.specs.Allocation.{Allocation}
+use Rattle.expression_code.specs.Layout.{Frame, term_layout}
+use Rattle.expression_code.specs.NumberRows.{chooses_zero}
+use Rattle.expression_code.specs.Registers.{zero_register, value_register}
+pub use Rattle.expression_code.specs.TermCode.{home_of_term}
+use Rattle.expression_code.specs.TermCode.{into_code, move_code, store_code}
+use Rattle.expression_code.specs.declared.locations.Location.{Location}
+use Rattle.expression_code.specs.declared.locations.Location.TheVariants.{InRegister, InSlot}
 use Rattle.codegen.specs.Below.{Instr, TermTree}
 
 -- The value of an expression, read where it is: in its home, where it has one, and else in the register that it is

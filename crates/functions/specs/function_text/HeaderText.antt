@@ -6,7 +6,7 @@ use Rattle.functions.specs.Below.{FixedArray, Form, MutableArray, P1, P2, Profil
 use Rattle.functions.specs.function_text.AssemblerText.{profile_text}
 use Rattle.functions.specs.function_text.Functions.{Named, FunctionParts}
 use Rattle.functions.specs.function_text.Names.{guard_name, stack_name}
-use Rattle.codegen.specs.declared.image_fields.slot.ResultSlot.{ResultSlot}
+use Rattle.expression_code.specs.declared.image_fields.slot.ResultSlot.{ResultSlot}
 use Rattle.language.specs.declared.signature.Kind.{Kind}
 use Rattle.language.specs.declared.signature.Kind.TheVariants.{Boolean, Uint8, Uint16, Uint32}
 use Rattle.language.specs.declared.signature.Label.{Label}

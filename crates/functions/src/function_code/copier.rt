@@ -10,7 +10,7 @@ ghost use Rattle.functions.specs.function_code.private.Ways.{goes_unchanged};
 
 use crate::function_code::copying::{Way, bound, elements, looped, times};
 use crate::function_code::pieces::wrapped;
-use codegen::image_fields::{ImageFields, Slot};
+use expression_code::image_fields::{ImageFields, Slot};
 use language::{Form, Kind};
 use linked_calls::{Pace, Round};
 use rv_code::{

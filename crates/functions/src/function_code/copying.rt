@@ -7,7 +7,7 @@ ghost use Rattle.functions.specs.Below.{rounds_code, store_by, times};
 ghost use Rattle.functions.specs.function_code.private.Ways.{element_code};
 
 use crate::function_code::pieces::{added, store_by, until_equal};
-use codegen::expression_code::emit::{constant, load_by};
+use expression_code::emit::{constant, load_by};
 use language::Kind;
 use linked_calls::{Pace, Round};
 use rv_code::{Immediate12, ImmediateOperation, Instr, Reg, RegisterOperation};

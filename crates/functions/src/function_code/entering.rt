@@ -10,8 +10,8 @@ use crate::function_code::arrays::copy_in;
 use crate::function_code::pieces::added;
 use crate::function_code::registers;
 use crate::function_code::room::{Around, IN_REGISTERS, stacked_offset};
-use codegen::expression_code::emit::{constant, load, store};
-use codegen::image_fields::{ImageFields, Slot};
+use expression_code::emit::{constant, load, store};
+use expression_code::image_fields::{ImageFields, Slot};
 use language::{Form, Kind};
 use rv_code::{
     Immediate12, ImmediateOperation, Instr, Reg, RegisterOperation, ShiftAmount, ShiftOperation,

@@ -5,7 +5,7 @@ ghost use Rattle.functions.specs.Below.{has_destination, is_written, kept_of, wr
 
 use crate::function_code::registers;
 use crate::function_code::words::body;
-use codegen::image_fields::ImageFields;
+use expression_code::image_fields::ImageFields;
 use rv_code::Reg;
 use std::alloc::{AllocError, Global};
 

@@ -4,7 +4,7 @@ ghost use Rattle.std.specs.Prelude.{◌≡◌, ◌≤◌, ◌<◌, ◌+◌, ◌*
 ghost use Rattle.functions.specs.Below.{added, address_code, clear_registers_code, loads_code};
 ghost use Rattle.functions.specs.Below.{store_by, stores_code, until_equal};
 
-use codegen::expression_code::emit::constant;
+use expression_code::emit::constant;
 use language::Kind;
 use rv_code::{
     BranchOffset, BranchTest, Immediate12, ImmediateOperation, Instr, LoadOperation, Reg,

@@ -7,7 +7,7 @@ ghost use Rattle.functions.specs.function_code.Above.{IsAbove};
 
 use crate::function_code::copier::copier_of;
 use crate::function_code::kept::kept_count;
-use codegen::image_fields::{ImageFields, Slot};
+use expression_code::image_fields::{ImageFields, Slot};
 use language::Form;
 use linked_calls::{Pace, Round};
 

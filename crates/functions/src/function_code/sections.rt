@@ -22,7 +22,7 @@ use crate::function_code::pieces::{clear_registers, loads, stores, wrapped};
 use crate::function_code::registers;
 use crate::function_code::room::{Around, first_argument, frame_room, needed_count, room_of};
 use crate::function_code::zeroing::{cleared_frame, wiped_room};
-use codegen::image_fields::{ImageFields, Slot};
+use expression_code::image_fields::{ImageFields, Slot};
 use hepurita::FrameNeeds;
 use language::{Form, Kind, Param};
 use linked_calls::{Pace, Round, Section};

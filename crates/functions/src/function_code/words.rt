@@ -10,7 +10,7 @@ use crate::function_code::room::{Around, around_body};
 use crate::function_code::sections::{
     enter_sections, last_sections, leave_sections, next_code, sections_length,
 };
-use codegen::image_fields::ImageFields;
+use expression_code::image_fields::ImageFields;
 use hepurita::FrameNeeds;
 use linked_calls::{Pace, Section};
 use rv_code::{Instr, encode};

@@ -22,7 +22,7 @@ use crate::function_text::lines::{
     push_end, push_frame, push_instruction, push_number, push_start, push_title,
 };
 use crate::function_text::notation::{Notation, next_position, push_word};
-use codegen::image_fields::ImageFields;
+use expression_code::image_fields::ImageFields;
 use language::Profile;
 use linked_calls::{Pace, Section};
 use rv_code::Instr;

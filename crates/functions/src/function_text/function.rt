@@ -14,7 +14,7 @@ ghost use Rattle.compilation.specs.Needs.{needs_as};
 use crate::function_text::fault::FunctionFault;
 use crate::function_text::naming::{Macros, is_taken_function, macros_of, written_name};
 use codegen::Code;
-use codegen::image_fields::ImageFields;
+use expression_code::image_fields::ImageFields;
 use hepurita::{Compiled, FrameNeeds, Optimisation, compile_with};
 use language::{Name, Param, Parameter, Procedure, Profile, Program, Refusal};
 use linked_calls::Pace;

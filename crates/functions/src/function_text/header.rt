@@ -15,7 +15,7 @@ use crate::function_code::room_of;
 use crate::function_text::assembler::profile_text;
 use crate::function_text::function::{Function, NamedParam};
 use crate::function_text::lines::push_number;
-use codegen::image_fields::ResultSlot;
+use expression_code::image_fields::ResultSlot;
 use language::{Form, Kind, Label, Param, Profile};
 use std::alloc::{AllocError, Global};
 use std::fmt::Write;

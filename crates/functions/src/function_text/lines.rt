@@ -12,7 +12,7 @@ ghost use Rattle.functions.specs.function_text.AssemblerText.{kept_lines, start_
 
 use crate::function_code::{Around, above_frame, room_of, section_code};
 use crate::function_text::notation::{Notation, push_code_line, push_onward_line};
-use codegen::image_fields::ImageFields;
+use expression_code::image_fields::ImageFields;
 use language::Form;
 use linked_calls::Section;
 use rv_code::Instr;

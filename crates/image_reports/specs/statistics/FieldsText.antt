@@ -2,7 +2,7 @@
 use Rattle.std.specs.Prelude.{ℕ, ◌+◌, List, [], ◌∷◌, ◌++◌, length, codes, Option, None, Some}
 use Rattle.std.specs.Fmt.{decimal}
 use Rattle.image_reports.specs.Below.{Fields, Profile, Slot}
-use Rattle.codegen.specs.declared.image_fields.slot.ResultSlot.{ResultSlot}
+use Rattle.expression_code.specs.declared.image_fields.slot.ResultSlot.{ResultSlot}
 use Rattle.image_reports.specs.statistics.TypeText.{kind_text, label_text, param_text}
 use Rattle.word.specs.declared.profile.Profile.TheVariants.{P1, P2}
 

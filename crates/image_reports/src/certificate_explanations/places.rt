@@ -8,7 +8,7 @@ ghost use Rattle.image_reports.specs.certificate_explanations.Places.{argument_t
 ghost use Rattle.image_reports.specs.certificate_explanations.Places.{place_text};
 
 use crate::certificates::argument_bytes;
-use codegen::image_fields::Slot;
+use expression_code::image_fields::Slot;
 use hepurita::FRAME_BASE;
 use language::{Form, Param};
 use std::alloc::AllocError;

@@ -3,7 +3,7 @@
 ghost use Rattle.std.specs.Prelude.{◌≡◌, map};
 ghost use Rattle.image_reports.specs.certificates.Given.{rule_of_unknown, rule_of_given, fault_of_given};
 
-use codegen::image_fields::Slot;
+use expression_code::image_fields::Slot;
 use language::arguments::{ArgumentFault, ArgumentRule, broken_rule, first_fault_by};
 use language::{Arg, Label};
 

@@ -8,7 +8,7 @@ ghost use Rattle.image_reports.specs.certificates.KnownImage.{argument_bytes, kn
 ghost use Rattle.image_reports.specs.certificates.KnownImage.{with_unknown};
 
 use certified_runs::{KnownParts, Shifts};
-use codegen::image_fields::Slot;
+use expression_code::image_fields::Slot;
 use hepurita::{CODE_BASE, FRAME_BASE, frame, put_argument};
 use image::Image;
 use language::{Arg, Form, Param};

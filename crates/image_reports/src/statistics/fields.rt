@@ -6,7 +6,7 @@ ghost use Rattle.image_reports.specs.statistics.FieldsText.{fields_text, profile
 ghost use Rattle.image_reports.specs.statistics.FieldsText.{slot_line, slot_lines};
 
 use crate::statistics::types::{ParamType, kind_text, label_text};
-use codegen::image_fields::{ImageFields, ResultSlot, Slot};
+use expression_code::image_fields::{ImageFields, ResultSlot, Slot};
 use language::Profile;
 use std::alloc::AllocError;
 use std::fmt::Write;

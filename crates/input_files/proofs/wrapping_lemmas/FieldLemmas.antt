@@ -7,8 +7,8 @@ use Rattle.codegen.proofs.ImageLemmas.{length-slots_from, count_in_words, slots_
 use Rattle.input_files.specs.Below.{declaration_of, declared_words, Fields, HasLength, is_frame_size, is_step_limit}
 use Rattle.input_files.specs.Below.{IsImage, IsResultSlot, layout_end, most_declared_bytes, Param, result_end}
 use Rattle.input_files.specs.Below.{ResultSlot, slots_end, slots_from, WordType}
-use Rattle.codegen.specs.declared.image_fields.slot.Slot.{Slot}
-use Rattle.codegen.specs.image_fields.Limits.{most_frame_bytes, most_steps, most_words}
+use Rattle.expression_code.specs.declared.image_fields.slot.Slot.{Slot}
+use Rattle.expression_code.specs.image_fields.Limits.{most_frame_bytes, most_steps, most_words}
 use Rattle.input_files.specs.wrapping.Wrapped.{AreWordsOf, broken_rule, end_of, is_code_length, result_behind}
 use Rattle.input_files.specs.declared.wrapping.asked.Asked.{Asked}
 use Rattle.input_files.specs.declared.wrapping.fault.CodeRule.{CodeRule}

@@ -6,7 +6,7 @@ ghost use Rattle.input_files.specs.wrapping.Wrapped.{is_code_length, broken_rule
 
 use crate::wrapping::asked::Asked;
 use crate::wrapping::fault::CodeRule;
-use codegen::image_fields::{MOST_FRAME_BYTES, MOST_STEPS, MOST_WORDS};
+use expression_code::image_fields::{MOST_FRAME_BYTES, MOST_STEPS, MOST_WORDS};
 
 /// The bytes of a code word, and of a word of the frame.
 pub(crate) const WORD_BYTES: usize = 4;

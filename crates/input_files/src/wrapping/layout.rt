@@ -4,7 +4,7 @@ ghost use Rattle.std.specs.Prelude.{◌≡◌, ◌+◌, ◌<◌, ◌^◌};
 ghost use Rattle.input_files.specs.Below.{layout_end, slots_end};
 ghost use Rattle.input_files.specs.wrapping.Wrapped.{result_behind};
 
-use codegen::image_fields::{ResultSlot, Slot};
+use expression_code::image_fields::{ResultSlot, Slot};
 use language::WordType;
 
 /// Where the last of the slots ends.

@@ -3,8 +3,8 @@ use Rattle.std.proofs.Common.{append_assoc, append-nil, drop, refl, sym, ap, sub
 use Rattle.std.proofs.lemmas.List.{drop_more}
 use Rattle.codegen.proofs.HomesBut.{homes_left}
 use Rattle.codegen.proofs.Machine.{home_of, Instr}
-use Rattle.codegen.specs.declared.expression_code.allocation.Mirror.{Mirror}
-use Rattle.codegen.specs.expression_code.TermCode.{mirror_by}
+use Rattle.expression_code.specs.declared.allocation.Mirror.{Mirror}
+use Rattle.expression_code.specs.TermCode.{mirror_by}
 use Rattle.codegen.specs.private.Fresh.{homes_but, starts_fresh}
 use Rattle.codegen.specs.private.Generated.{mirrors_code}
 use Rattle.codegen.proofs.generator.enter_mirrors.Goals as goal

@@ -4,7 +4,7 @@ use Rattle.codegen.proofs.Machine.{Frame, Fields, Instr, most_words, program_cod
 use Rattle.codegen.proofs.BodyRuns.{is_generated}
 use Rattle.codegen.proofs.ImageLemmas.{room_frame, has_room, image_there, laid_words}
 use Rattle.codegen.proofs.Machine.{laid_out}
-use Rattle.codegen.specs.expression_code.Layout.{slotted}
+use Rattle.expression_code.specs.Layout.{slotted}
 use Rattle.codegen.proofs.Language.{FlatVariable, StraightProgram, declared_words}
 use Rattle.codegen.proofs.generator.generate_with.Goals as goal
 

@@ -1,6 +1,6 @@
 use Rattle.std.proofs.Common.{◌≡◌, ℕ, List, Option, IfOk, length, subst}
 use Rattle.codegen.specs.Exact.{optimised_variables}
-use Rattle.codegen.specs.expression_code.Layout.{slotted}
+use Rattle.expression_code.specs.Layout.{slotted}
 use Rattle.codegen.specs.private.Homes.{word_homes}
 use Rattle.codegen.proofs.generator.optimised_variables.Goals as goal
 

@@ -10,7 +10,7 @@ use Rattle.codegen.proofs.Language.{term_tree}
 use Rattle.codegen.proofs.Logic.{option_map}
 use Rattle.codegen.proofs.ImageLemmas.{result_among, body_placed, laid_length, room_frame}
 use Rattle.codegen.proofs.Machine.{Frame, height_of, result_height, temporaries_offset}
-use Rattle.codegen.specs.expression_code.TermCode.{IsAmong}
+use Rattle.expression_code.specs.TermCode.{IsAmong}
 use Rattle.codegen.proofs.generator.program_code.Goals as goal
 
 pub enter-requires : goal.enter-requires

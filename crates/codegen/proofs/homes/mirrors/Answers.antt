@@ -1,7 +1,7 @@
 use Rattle.std.proofs.Common.{◌≡◌, ℕ, ◌+◌, ◌<◌, ◌++◌, List, [], ◌∷◌, drop, get_or, length, Option, append_assoc, append-nil}
 use Rattle.std.proofs.Common.{ap, sym, ◌∙◌}
 use Rattle.std.proofs.lemmas.List.{at_drop_all, at_drop_more}
-use Rattle.codegen.specs.declared.expression_code.allocation.Mirror.{Mirror}
+use Rattle.expression_code.specs.declared.allocation.Mirror.{Mirror}
 use Rattle.codegen.specs.private.Homes.{mirror_in, mirrors_from}
 use Rattle.codegen.specs.private.MirrorUses.{Uses}
 use Rattle.codegen.proofs.homes.mirrors.Goals as goal

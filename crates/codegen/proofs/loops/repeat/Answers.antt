@@ -2,8 +2,8 @@ use Rattle.std.proofs.Common.{◌≡◌, ℕ, ◌++◌, Bool, List, Option, None
 use Rattle.codegen.proofs.Language.{TermTree, term_tree}
 use Rattle.codegen.proofs.Machine.{Frame, Instr, Location}
 use Rattle.codegen.proofs.StatementCode.{emitted}
-use Rattle.codegen.specs.expression_code.Layout.{next_offset, variable_location}
-use Rattle.codegen.specs.expression_code.TermCode.{mirror_code}
+use Rattle.expression_code.specs.Layout.{next_offset, variable_location}
+use Rattle.expression_code.specs.TermCode.{mirror_code}
 use Rattle.codegen.specs.private.Loops.{counting_home, loop_from, repeat_code, short_number}
 use Rattle.codegen.proofs.loops.repeat.Goals as goal
 

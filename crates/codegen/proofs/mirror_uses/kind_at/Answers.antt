@@ -1,6 +1,6 @@
 use Rattle.std.proofs.Common.{◌≡◌, ℕ, zero, suc, ◌<◌, ◌≤◌, List, [], ◌∷◌, length, get_or, ap, refl, arith}
 use Rattle.codegen.proofs.Language.{FlatVariable, Uint32}
-use Rattle.codegen.specs.expression_code.TermCode.{kind_at}
+use Rattle.expression_code.specs.TermCode.{kind_at}
 use Rattle.codegen.proofs.mirror_uses.kind_at.Goals as goal
 
 kind_listed : (ds : List FlatVariable) (x : ℕ) (d : FlatVariable) → x < length ds → d ≡ get_or ds x d

@@ -1,9 +1,0 @@
-use Rattle.std.proofs.Common.{◌≡◌, ◌≤◌, ◌+◌, ◌*◌, ◌++◌, drop, map}
-use Rattle.codegen.proofs.expression_code_lemmas.Below.{slots_from, declaration_of, declared_words}
-use Rattle.codegen.proofs.expression_code.layout.slots.Given as goal
-
-abbrev pub invariant-loop-parameter : goal.invariant-loop-parameter
-invariant-loop-parameter l = record {
-  low : l.low + 4 * declared_words (map declaration_of (drop l.parameter-index l.parameters)) ≤ 65536;
-  rest : l.slots.items ++ slots_from l.low (drop l.parameter-index l.parameters) ≡ slots_from 0 l.parameters;
-}
