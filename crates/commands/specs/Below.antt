@@ -101,15 +101,15 @@ pub use Rattle.elf_runs.specs.Calls.{LeadThere}
 pub use Rattle.elf_runs.specs.Certified.{CertifiedFunction}
 pub use Rattle.elf_runs.specs.Loading.{known_at_start, machine_program, state_at_start}
 pub use Rattle.elf_runs.specs.Needs.{first_unmet, needs}
-pub use Rattle.elf_runs.specs.Witnessed.{IsWitness}
-pub use Rattle.elf_runs.specs.declared.asked.Asked.{Asked as AskedRun}
-pub use Rattle.elf_runs.specs.declared.asked.Setting.{Setting}
+pub use Rattle.elf_witnesses.specs.Witnessed.{IsWitness}
+pub use Rattle.elf_memory.specs.declared.asked.Asked.{Asked as AskedRun}
+pub use Rattle.elf_memory.specs.declared.asked.Setting.{Setting}
 pub use Rattle.elf_runs.specs.declared.certifying.FunctionCertificate.{FunctionCertificate}
 pub use Rattle.elf_runs.specs.declared.fault.StartFault.{StartFault}
 pub use Rattle.elf_runs.specs.declared.fault.Unmet.{Unmet}
 pub use Rattle.elf_runs.specs.declared.options.RunOptions.{RunOptions}
-pub use Rattle.elf_runs.specs.declared.stops.FunctionStop.{FunctionStop}
-pub use Rattle.elf_runs.specs.declared.witnessing.Witness.{Witness}
+pub use Rattle.elf_memory.specs.declared.stops.FunctionStop.{FunctionStop}
+pub use Rattle.elf_witnesses.specs.declared.witnessing.Witness.{Witness}
 pub use Rattle.elf_reports.specs.Asking.{AsksFor, part_word, spelling}
 pub use Rattle.elf_reports.specs.EncodingLines.{IsLineOfEncoding}
 pub use Rattle.elf_reports.specs.Encodings.{encoding_at, encoding_in}

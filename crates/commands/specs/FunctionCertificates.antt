@@ -6,14 +6,14 @@ use Rattle.commands.specs.Below.{FunctionCertificate, FunctionStop, IsLineOfEnco
 use Rattle.commands.specs.Below.{place_line}
 use Rattle.commands.specs.Below.{RunOptions, state_at_start}
 use Rattle.elf_reports.specs.Explained.{ExplainsFunction}
-use Rattle.elf_runs.specs.Certified.{stop_name}
+use Rattle.elf_memory.specs.Stops.{stop_name}
 use Rattle.commands.specs.Certificates.{shifts_seen}
 use Rattle.commands.specs.Contents.{Contents}
 use Rattle.commands.specs.Executables.{HoldsExecutable}
 use Rattle.commands.specs.Stops.{function_stop_status}
 use Rattle.command_line.specs.declared.options.FunctionOptions.{FunctionOptions}
 use Rattle.elf_runs.specs.declared.certifying.FunctionCertificate.TheVariants.{MayDiffer, Same}
-use Rattle.elf_runs.specs.declared.stops.FunctionStop.TheVariants.{Returned, Stopped}
+use Rattle.elf_memory.specs.declared.stops.FunctionStop.TheVariants.{Returned, Stopped}
 
 -- how the run is to be made, as the options say
 abbrev pub run_options : FunctionOptions → RunOptions

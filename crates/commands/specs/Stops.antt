@@ -2,7 +2,7 @@
 use Rattle.std.specs.Prelude.{ℕ}
 use Rattle.commands.specs.Below.{AccessFault, Break, Budget, Ecall, FunctionStop, Illegal, Misaligned, RecorderRefused}
 use Rattle.commands.specs.Below.{Stop}
-use Rattle.elf_runs.specs.declared.stops.FunctionStop.TheVariants.{Returned, Stopped}
+use Rattle.elf_memory.specs.declared.stops.FunctionStop.TheVariants.{Returned, Stopped}
 
 -- 0 where it stops by ECALL, else 5
 abbrev pub status_of : Stop → ℕ

@@ -18,7 +18,8 @@ use crate::function_words::{asked_of, fault_of_start};
 use command_line::{ObservedOptions, Request};
 use elf::{Program, read};
 use elf_reports::{AskedWords, push_place};
-use elf_runs::{Asked, RunOptions, Setting, StartFault, Witness, find_witness};
+use elf_runs::{Asked, RunOptions, Setting, StartFault};
+use elf_witnesses::{Witness, find_witness};
 use std::alloc::{AllocError, Global};
 
 /// Two runs of a function of an executable, on secrets of which an observer sees different things, as lines, if one of

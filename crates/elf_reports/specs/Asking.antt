@@ -10,7 +10,7 @@ use Rattle.hex.specs.Hex.{decode_of}
 use Rattle.hex.specs.declared.error.FromHexError.{FromHexError}
 use Rattle.elf_reports.specs.Below.{Argument, Asked, each_from, need, Need, Part, Setting, word_of}
 use Rattle.elf.specs.declared.fault.ElfRule.TheVariants as rules
-use Rattle.elf_runs.specs.declared.asked.Argument.TheVariants as arguments
+use Rattle.elf_memory.specs.declared.asked.Argument.TheVariants as arguments
 use Rattle.elf_runs.specs.declared.fault.Part.TheVariants as parts
 use Rattle.elf_reports.specs.declared.asking.AskedWords.{AskedWords}
 

@@ -24,22 +24,23 @@ pub use Rattle.run_reports.specs.declared.origins.registers.Origin.{Origin}
 pub use Rattle.language.specs.arguments.Texts.{word_of}
 pub use Rattle.elf.specs.Lookup.{function_at, object_at}
 pub use Rattle.elf.specs.Reading.{Executable}
-pub use Rattle.elf_runs.specs.Arguments.{stack_begin, stack_end}
-pub use Rattle.elf_runs.specs.Certified.{CertifiedFunction, function_stop, stop_name}
+pub use Rattle.elf_memory.specs.Arguments.{stack_begin, stack_end}
+pub use Rattle.elf_runs.specs.Certified.{CertifiedFunction}
+pub use Rattle.elf_memory.specs.Stops.{function_stop, stop_name}
 pub use Rattle.elf_runs.specs.Code.{halfwords_from, placed, words_from}
 pub use Rattle.elf_runs.specs.Loading.{addresses_of, alignment_by, code_among, code_by, code_for, known_at_start}
 pub use Rattle.elf_runs.specs.Loading.{machine_program, state_at_start}
 pub use Rattle.elf_runs.specs.Needs.{each_from, first_unmet, IsTold, need, Need, needs}
 pub use Rattle.elf_runs.specs.Promised.{RunsUncut}
-pub use Rattle.elf_runs.specs.declared.asked.Argument.{Argument}
-pub use Rattle.elf_runs.specs.declared.asked.Asked.{Asked}
-pub use Rattle.elf_runs.specs.declared.asked.Setting.{Setting}
+pub use Rattle.elf_memory.specs.declared.asked.Argument.{Argument}
+pub use Rattle.elf_memory.specs.declared.asked.Asked.{Asked}
+pub use Rattle.elf_memory.specs.declared.asked.Setting.{Setting}
 pub use Rattle.elf_runs.specs.declared.certifying.FunctionCertificate.TheVariants.{MayDiffer}
 pub use Rattle.elf_runs.specs.declared.fault.Part.{Part}
 pub use Rattle.elf_runs.specs.declared.fault.StartFault.{StartFault}
 pub use Rattle.elf_runs.specs.declared.fault.Unmet.{Unmet}
 pub use Rattle.elf_runs.specs.declared.options.RunOptions.{RunOptions}
-pub use Rattle.elf_runs.specs.declared.stops.FunctionStop.{FunctionStop}
+pub use Rattle.elf_memory.specs.declared.stops.FunctionStop.{FunctionStop}
 pub use Rattle.listing.specs.Below.{text_of}
 pub use Rattle.listing.specs.Code.{IsLineOf}
 pub use Rattle.listing.specs.Lines.{lines_of}

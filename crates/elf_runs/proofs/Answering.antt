@@ -5,10 +5,10 @@ use Rattle.std.proofs.Common.{arith, drop, length, take}
 use Rattle.std.proofs.lemmas.Bool.{eqb-true, leb-true}
 use Rattle.std.specs.List.{list_all}
 use Rattle.elf_runs.specs.Below.{Executable, memory_of, most_memory}
-use Rattle.elf_runs.specs.Arguments.{pushed_size, stack_begin}
+use Rattle.elf_memory.specs.Arguments.{pushed_size, stack_begin}
 use Rattle.elf_runs.specs.Needs.{Need, argument_needs, each_from, ends_by, first_unmet, function_needs, needs}
 use Rattle.elf_runs.specs.Needs.{secret_needs, setting_needs, stack_needs}
-use Rattle.elf_runs.specs.declared.asked.Asked.{Asked}
+use Rattle.elf_memory.specs.declared.asked.Asked.{Asked}
 use Rattle.elf_runs.specs.declared.fault.Unmet.{Unmet}
 use Rattle.elf_runs.proofs.Meeting.{held_before, met_behind, split, unmet_before}
 

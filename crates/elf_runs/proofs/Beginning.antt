@@ -5,14 +5,15 @@ use Rattle.std.proofs.Common.{Some, sym}
 use Rattle.std.proofs.Math.Path.{fun_ext}
 use Rattle.std.proofs.Math.ListN.{get_or-eq_default}
 use Rattle.std.proofs.lemmas.Bool.{cases_lt, lt-ltb, le-ltb}
-use Rattle.elf_runs.specs.declared.asked.Asked.{Asked}
+use Rattle.elf_memory.specs.declared.asked.Asked.{Asked}
 use Rattle.elf_runs.specs.Below.{ByteMap, Executable, function_named, known_of, KnownState, MachineProgram, Profile}
 use Rattle.elf_runs.specs.Below.{ProgramCode, register, register_masks, Shifts, State}
-use Rattle.elf_runs.specs.Word.{known}
-use Rattle.elf_runs.specs.Memory.{RangeState}
-use Rattle.elf_runs.specs.Begin.{register_of}
-use Rattle.elf_runs.specs.declared.words.Word.{Word}
-use Rattle.elf_runs.specs.Loading.{address_or_zero, code_for, known_at_start, may_be_stored_to, state_at_start}
+use Rattle.elf_memory.specs.Word.{known}
+use Rattle.elf_memory.specs.Memory.{RangeState}
+use Rattle.elf_memory.specs.Begin.{register_of}
+use Rattle.elf_memory.specs.declared.words.Word.{Word}
+use Rattle.elf_runs.specs.Loading.{address_or_zero, code_for, known_at_start, state_at_start}
+use Rattle.elf_memory.specs.Ranges.{may_be_stored_to}
 use Rattle.elf_runs.specs.private.Loaded.{program_over}
 
 -- the words of registers that there are, and 0 for others

@@ -3,7 +3,7 @@ use Rattle.std.proofs.Common.{◌≡◌, ◌<◌, ◌∙◌, ℕ, List, ap, arit
 use Rattle.std.proofs.lemmas.Bool.{cases_lt}
 use Rattle.elf_runs.specs.Below.{Budget, CertifiedEnd, CertifiedRun, ComesTo, end_of, Executable, KnownState}
 use Rattle.elf_runs.specs.Below.{MachineProgram, Observation, RunEnding, State}
-use Rattle.elf_runs.specs.declared.asked.Asked.{Asked}
+use Rattle.elf_memory.specs.declared.asked.Asked.{Asked}
 use Rattle.elf_runs.specs.Needs.{first_unmet, IsTold, needs}
 use Rattle.elf_runs.specs.declared.fault.StartFault.{StartFault}
 use Rattle.certified_runs.specs.declared.certifying.CertifiedEnd.TheVariants as ends

@@ -1,34 +1,13 @@
--- Lists that are filled or changed one item after another.
-use Rattle.std.proofs.Common.{◌≡◌, ◌<◌, ◌≤◌, ◌+◌, ◌-◌, ◌*◌, ◌++◌, ◌∙◌, [], ◌∷◌, ℕ, List, ap, arith, drop, length, map, refl}
-use Rattle.std.proofs.Common.{append_assoc, false, get_or, replicate, suc, zero, slice_index, slice_set, sym, take, true, w32}
-use Rattle.std.proofs.lemmas.Grind.{common_steps, flat_map-append}
-use Rattle.std.proofs.lemmas.List.{length-append, length-map, length-replicate, map_more, map-set, take_all}
+-- The bytes of words on a stack, one word after another.
+use Rattle.std.proofs.Common.{◌≡◌, ◌<◌, ◌≤◌, ◌+◌, ◌-◌, ◌*◌, ◌++◌, ◌∙◌, [], ◌∷◌, ℕ, List, ap, arith, length, map, refl}
+use Rattle.std.proofs.Common.{append_assoc, false, get_or, replicate, sym, take, true, w32}
+use Rattle.std.proofs.lemmas.Grind.{flat_map-append}
+use Rattle.std.proofs.lemmas.List.{length-append, length-map, length-replicate, map_more, take_all}
 use Rattle.std.specs.Int.{to_le_bytes}
 use Rattle.std.specs.List.{flat_map}
-use Rattle.std.proofs.Math.ListN.{get_or-map}
-use Rattle.std.proofs.lemmas.List.Edits.{map_over_more}
-use Rattle.elf_runs.specs.Arguments.{rounded, stack_begin}
-use Rattle.elf_runs.specs.Below.{AreApart, IsWithin, LoadedSegment}
-use Rattle.elf_runs.specs.Memory.{RangeState, on_stack, range_of, stack_range}
-use Rattle.elf_runs.specs.declared.memory_range.MemoryRange.{MemoryRange}
-use Rattle.elf_runs.specs.declared.words.Word.{Word}
-
-pub below_more : (values : List ℕ) (f : ℕ → ℕ) (r v : ℕ) → r < length values
-    → ((j : ℕ) → j < r → slice_index values j ≡ f j) → v ≡ f r
-    → (j : ℕ) → j < r + 1 → slice_index (slice_set values r v) j ≡ f j
-below_more values f r v lt below is j less = grind (arith, common_steps, below, is)
-
--- one range changed, and those before it
-pub one_changed : (f : RangeState → RangeState) (old : List RangeState) (items : List MemoryRange) (k : ℕ)
-    (x y : MemoryRange)
-    → k < length old → map range_of items ≡ map f (take k old) ++ drop k old → x ≡ get_or items k x
-    → range_of y ≡ f (range_of x)
-    → map range_of (slice_set items k y) ≡ map f (take (k + 1) old) ++ drop (k + 1) old
-one_changed f old items k x y lt before is changed =
-    map-set range_of items k y
-    ∙ ap (slice_set (map range_of items) k) changed
-    ∙ map_over_more f old (map range_of items) k (range_of x) lt before
-    (ap range_of is ∙ sym (get_or-map range_of items k x))
+use Rattle.elf_memory.specs.Arguments.{rounded, stack_begin}
+use Rattle.elf_memory.specs.Memory.{on_stack, stack_range}
+use Rattle.elf_memory.specs.declared.words.Word.{Word}
 
 length_bytes : (words : List ℕ) → length (flat_map (to_le_bytes w32) words) ≡ 4 * length words
 length_bytes [] = refl
@@ -92,11 +71,3 @@ pub stack_is : (size : ℕ) (words : List Word) (bytes unknown : List ℕ)
     }
     ≡ stack_range size words
 stack_is size words bytes unknown is hidden = rw (is, hidden) refl
-
--- a segment of a program ends at 2 ^ 32 or before
-pub within_at : (before segments : List LoadedSegment) (i : ℕ) (d : LoadedSegment) → AreApart before segments
-    → i < length segments → IsWithin (get_or segments i d)
-within_at before [] i d apart lt = absurd (omega (arith, lt))
-within_at before (segment ∷ segments) zero d apart lt = apart.1
-within_at before (segment ∷ segments) (suc i) d apart lt =
-    within_at (before ++ segment ∷ []) segments i d apart.2 (omega (arith, lt))

@@ -5,14 +5,8 @@ pub mod Answering
 pub mod CodeWords
 pub mod CodeHalfwords
 pub mod Segments
-pub mod Ranges
 pub mod Beginning
 pub mod Calling
 pub mod Ends
 pub mod Outside
 pub mod Promises
-pub mod InStep
-pub mod Trying
-pub mod Tries
-pub mod MoreSet
-pub mod Found

@@ -7,11 +7,11 @@ use Rattle.std.proofs.lemmas.Bool.{le-leb, le-ltb, leb-true}
 use Rattle.rv_programs.specs.Code.{no_halfword, no_word}
 use Rattle.elf_runs.specs.Below.{AreApart, Executable, HasNoCode, lies_in, LoadedSegment, no_code, Profile, ProgramCode}
 use Rattle.elf_runs.specs.Below.{Size}
-use Rattle.elf_runs.specs.declared.asked.Asked.{Asked}
+use Rattle.elf_memory.specs.declared.asked.Asked.{Asked}
 use Rattle.elf_runs.specs.Needs.{ends_by, first_unmet, needs}
 use Rattle.elf_runs.specs.Code.{code_in, code_of, halfword_code, halfwords_of, to_multiple, word_code}
 use Rattle.elf_runs.specs.Code.{words_of}
-use Rattle.elf_runs.specs.Arguments.{return_address, stack_begin}
+use Rattle.elf_memory.specs.Arguments.{return_address, stack_begin}
 use Rattle.elf_runs.specs.Loading.{addresses_of, alignment_by, code_among, code_for}
 use Rattle.elf_runs.proofs.Answering.{segments_below}
 

@@ -7,9 +7,9 @@ use Rattle.std.proofs.lemmas.Option.{none-some, same_Some}
 use Rattle.elf_runs.specs.Below.{AccessFault, AreApart, CertifiedEnd, CertifiedRun, Covers, end_of, entries_of, Entry}
 use Rattle.elf_runs.specs.Below.{Executable, KnownState, MachineProgram, Observation, program_counter, ProgramHalts}
 use Rattle.elf_runs.specs.Below.{ProgramRuns, RecorderRefused, RunEnding, ShiftsBy, State, Stop}
-use Rattle.elf_runs.specs.declared.asked.Asked.{Asked}
+use Rattle.elf_memory.specs.declared.asked.Asked.{Asked}
 use Rattle.elf_runs.specs.Needs.{first_unmet, IsTold, needs}
-use Rattle.elf_runs.specs.Arguments.{return_address}
+use Rattle.elf_memory.specs.Arguments.{return_address}
 use Rattle.elf_runs.specs.declared.fault.StartFault.{StartFault}
 use Rattle.certified_runs.specs.Certified.{may_differ, same}
 use Rattle.certified_runs.specs.declared.certifying.CertifiedEnd.TheVariants as ends
@@ -18,15 +18,16 @@ use Rattle.elf_runs.specs.declared.fault.StartFault.TheVariants.{Memory, Refused
 use Rattle.rv_machine.specs.declared.stops.Stop.TheVariants as stops
 use Rattle.rv_programs.specs.Runs.{cut_short, halted, spent}
 use Rattle.elf_runs.specs.Certified as answers
-use Rattle.elf_runs.specs.Certified.{by_a_step, certificate_at, certified, CertifiedFunction, EndsAt, function_stop}
+use Rattle.elf_runs.specs.Certified.{by_a_step, certificate_at, certified, CertifiedFunction, EndsAt}
+use Rattle.elf_memory.specs.Stops.{function_stop}
 use Rattle.elf_runs.specs.Certified.{IsCertificate, refused}
 use Rattle.elf_runs.specs.Loading.{known_at_start, machine_program}
 use Rattle.elf_runs.specs.Promised.{AllBegin, AllShiftBy, AllShow, StopsSo}
 use Rattle.elf_runs.specs.declared.certifying.FunctionCertificate.{FunctionCertificate}
 use Rattle.elf_runs.specs.declared.certifying.FunctionCertificate.TheVariants.{MayDiffer, Same}
 use Rattle.elf_runs.specs.declared.options.RunOptions.{RunOptions}
-use Rattle.elf_runs.specs.declared.stops.FunctionStop.{FunctionStop}
-use Rattle.elf_runs.specs.declared.stops.FunctionStop.TheVariants.{Returned, Stopped}
+use Rattle.elf_memory.specs.declared.stops.FunctionStop.{FunctionStop}
+use Rattle.elf_memory.specs.declared.stops.FunctionStop.TheVariants.{Returned, Stopped}
 use Rattle.elf_runs.proofs.Below.{entries_in_common, every_run, Halts-determined, itself, one_end, shifts_agree}
 use Rattle.elf_runs.proofs.Below.{some_amounts, stops_there}
 use Rattle.elf_runs.proofs.Outside.{none_outside}

@@ -1,29 +1,16 @@
 -- What is answered where a run of a function is to be certified for all that is not known when it begins.
-use Rattle.std.specs.Prelude.{◌≡◌, ℕ, ◌==◌, List, codes, None, Result, Ok, Err, if◌then◌else◌}
-use Rattle.elf_runs.specs.Below.{AccessFault, Budget, CertifiedEnd, CertifiedRun, ComesTo, end_of, Executable}
-use Rattle.elf_runs.specs.Below.{KnownState, machine_stop_name, MachineProgram, Observation, RunEnding, State, Stop}
-use Rattle.elf_runs.specs.declared.asked.Asked.{Asked}
+use Rattle.std.specs.Prelude.{◌≡◌, ℕ, List, None, Result, Ok, Err}
+use Rattle.elf_runs.specs.Below.{Budget, CertifiedEnd, CertifiedRun, ComesTo, end_of, Executable, KnownState}
+use Rattle.elf_runs.specs.Below.{MachineProgram, Observation, RunEnding, State}
+use Rattle.elf_memory.specs.declared.asked.Asked.{Asked}
 use Rattle.elf_runs.specs.Needs.{first_unmet, IsTold, needs}
-use Rattle.elf_runs.specs.Arguments.{return_address}
 use Rattle.elf_runs.specs.declared.fault.StartFault.{StartFault}
 use Rattle.certified_runs.specs.declared.certifying.CertifiedEnd.TheVariants as ends
 use Rattle.elf_runs.specs.Loading.{known_at_start, machine_program}
+use Rattle.elf_memory.specs.Stops.{function_stop}
 use Rattle.elf_runs.specs.declared.options.RunOptions.{RunOptions}
-use Rattle.elf_runs.specs.declared.stops.FunctionStop.{FunctionStop}
-use Rattle.elf_runs.specs.declared.stops.FunctionStop.TheVariants.{Returned, Stopped}
 use Rattle.elf_runs.specs.declared.certifying.FunctionCertificate.{FunctionCertificate}
 use Rattle.elf_runs.specs.declared.certifying.FunctionCertificate.TheVariants.{MayDiffer, Same}
-
--- how the run of a function has stopped at an address: it came back to its caller where that is the address in ra, at
--- which no code stands
-abbrev pub function_stop : Stop → ℕ → FunctionStop
-function_stop AccessFault address = if address == return_address then Returned else Stopped AccessFault
-function_stop stop address = Stopped stop
-
--- how it is printed
-abbrev pub stop_name : FunctionStop → List ℕ
-stop_name Returned = codes "Return"
-stop_name (Stopped stop) = machine_stop_name stop
 
 -- the certificate of a run that ends so, at this address
 abbrev pub certificate_at : ℕ → CertifiedEnd → FunctionCertificate

@@ -1,19 +1,18 @@
 -- What an executable is to the machine: its code, what may be stored to, and the state in which a run of one of its
 -- functions begins, as far as it is known.
-use Rattle.std.specs.Prelude.{ℕ, ◌+◌, ◌-◌, ◌*◌, ◌&&◌, Bool, true, false, not, List, [], ◌∷◌, length, Option, None, Some}
-use Rattle.std.specs.Prelude.{nat_le, nat_lt, slice_get, if◌then◌else◌}
-use Rattle.std.specs.List.{list_any}
-use Rattle.std.specs.Option.{option_or}
+use Rattle.std.specs.Prelude.{ℕ, ◌+◌, ◌*◌, Bool, true, false, List, [], ◌∷◌, length, Option, None, Some, nat_lt}
+use Rattle.std.specs.Prelude.{if◌then◌else◌}
 use Rattle.rv_machine.specs.declared.memory.Size.TheVariants as sizes
 use Rattle.rv_programs.specs.Code.{halfwords, words}
-use Rattle.elf_runs.specs.Below.{AddressRange, ByteMap, Executable, function_named, KnownState, lies_in, MachineProgram}
-use Rattle.elf_runs.specs.Below.{no_code, Profile, ProgramCode, Shifts, Size, State}
-use Rattle.elf_runs.specs.declared.asked.Asked.{Asked}
+use Rattle.elf_runs.specs.Below.{AddressRange, Executable, function_named, KnownState, lies_in, MachineProgram, no_code}
+use Rattle.elf_runs.specs.Below.{Profile, ProgramCode, Shifts, Size, State}
+use Rattle.elf_memory.specs.declared.asked.Asked.{Asked}
 use Rattle.elf_runs.specs.Code.{halfwords_from, PlacedCode, program_code, words_from}
-use Rattle.elf_runs.specs.Word.{known}
-use Rattle.elf_runs.specs.Memory.{memory_at_start, RangeState}
-use Rattle.elf_runs.specs.Begin.{register_of}
-use Rattle.elf_runs.specs.declared.words.Word.{Word}
+use Rattle.elf_memory.specs.Word.{known}
+use Rattle.elf_memory.specs.Memory.{memory_at_start}
+use Rattle.elf_memory.specs.Ranges.{item_at, may_be_stored_to}
+use Rattle.elf_memory.specs.Begin.{register_of}
+use Rattle.elf_memory.specs.declared.words.Word.{Word}
 
 -- the addresses at which code stands
 abbrev pub addresses_of : PlacedCode → AddressRange
@@ -40,18 +39,6 @@ code_among alignment profile (code ∷ codes) a =
 abbrev pub code_for : Executable → Profile → ℕ → ProgramCode
 code_for program profile = code_among (alignment_by program.compressed) profile (program_code program)
 
--- the range may be stored to. What is executed stays as it is, so a range that may be executed may not be stored to
-abbrev pub is_variable : RangeState → Bool
-is_variable range = range.access.writable && not range.access.executable
-
--- the address is one of the range's
-abbrev pub has_address : ℕ → RangeState → Bool
-has_address a range = nat_le range.address a && nat_lt a (range.address + length range.bytes)
-
--- the byte at an address may be stored to
-abbrev pub may_be_stored_to : List RangeState → ℕ → Bool
-may_be_stored_to ranges a = list_any (λ range. is_variable range && has_address a range) ranges
-
 -- the program that the executable is to the machine, where a run of a function begins with this memory
 abbrev pub machine_program : Executable → Asked → Profile → MachineProgram
 machine_program program asked profile =
@@ -59,15 +46,6 @@ machine_program program asked profile =
       code = code_for program profile;
       writable = may_be_stored_to (memory_at_start program asked);
     }
-
--- the item for an address, of items of which the first is for this one
-abbrev pub item_for : ℕ → ℕ → List ℕ → Option ℕ
-item_for a begin items = if nat_le begin a then slice_get items (a - begin) else None
-
--- the item for an address, of the last range that has one: no two ranges have an address in common
-abbrev pub item_at : (RangeState → List ℕ) → List RangeState → ByteMap
-item_at items [] a = None
-item_at items (range ∷ ranges) a = option_or (item_at items ranges a) (item_for a range.address (items range))
 
 -- what one of the 32 registers holds
 abbrev pub register_at_start : Executable → Asked → ℕ → Word

@@ -5,12 +5,12 @@ use Rattle.std.specs.Prelude.{MatchResult, is_some, nat_le, ◌==◌, if◌then�
 use Rattle.std.specs.List.{list_all}
 use Rattle.elf_runs.specs.Below.{ElfRule, Executable, LoadedSegment, function_named, memory_of, most_memory}
 use Rattle.elf.specs.declared.fault.ElfRule.TheVariants as rules
-use Rattle.elf_runs.specs.Arguments.{is_found, stack_begin}
-use Rattle.elf_runs.specs.Objects.{object_of, size_of}
-use Rattle.elf_runs.specs.declared.asked.Asked.{Asked}
-use Rattle.elf_runs.specs.declared.asked.Argument.{Argument}
-use Rattle.elf_runs.specs.declared.asked.Secret.{Secret}
-use Rattle.elf_runs.specs.declared.asked.Setting.{Setting}
+use Rattle.elf_memory.specs.Arguments.{is_found, stack_begin}
+use Rattle.elf_memory.specs.Objects.{object_of, size_of}
+use Rattle.elf_memory.specs.declared.asked.Asked.{Asked}
+use Rattle.elf_memory.specs.declared.asked.Argument.{Argument}
+use Rattle.elf_memory.specs.declared.asked.Secret.{Secret}
+use Rattle.elf_memory.specs.declared.asked.Setting.{Setting}
 use Rattle.elf_runs.specs.declared.fault.Part.{Part}
 use Rattle.elf_runs.specs.declared.fault.Part.TheVariants as parts
 use Rattle.elf_runs.specs.declared.fault.Unmet.{Unmet}

@@ -1,13 +1,13 @@
 -- What a certificate promises of all runs that begin as is asked.
 use Rattle.std.specs.Prelude.{◌≡◌, ◌≢◌, ℕ, List, length, take}
-use Rattle.elf_runs.specs.declared.asked.Asked.{Asked}
+use Rattle.elf_memory.specs.declared.asked.Asked.{Asked}
 use Rattle.elf_runs.specs.Below.{Covers, entries_of, Entry, Executable, HasReturned, MachineProgram, Observation}
 use Rattle.elf_runs.specs.Below.{ProgramRuns, RecorderRefused, ShiftsBy, State, Stop}
-use Rattle.elf_runs.specs.Arguments.{return_address}
+use Rattle.elf_memory.specs.Arguments.{return_address}
 use Rattle.elf_runs.specs.Loading.{known_at_start, machine_program}
 use Rattle.elf_runs.specs.declared.options.RunOptions.{RunOptions}
-use Rattle.elf_runs.specs.declared.stops.FunctionStop.{FunctionStop}
-use Rattle.elf_runs.specs.declared.stops.FunctionStop.TheVariants.{Returned, Stopped}
+use Rattle.elf_memory.specs.declared.stops.FunctionStop.{FunctionStop}
+use Rattle.elf_memory.specs.declared.stops.FunctionStop.TheVariants.{Returned, Stopped}
 
 -- a run of the function begins in this state: it agrees with all that is known
 abbrev pub Begins : Executable → Asked → RunOptions → State → Type 0

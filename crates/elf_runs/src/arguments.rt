@@ -1,14 +1,13 @@
 // The arguments of a function.
 
 ghost use Rattle.std.specs.Prelude.{◌≡◌, None, IfOk, IfErr};
-ghost use Rattle.elf_runs.specs.Arguments.{is_found, moved, word_of, words_of};
+ghost use Rattle.elf_memory.specs.Arguments.{is_found, moved, word_of, words_of};
 ghost use Rattle.elf_runs.specs.Needs.{Meets, IsTold, argument_needs, each_from, first_unmet};
 
-use crate::asked::Argument;
 use crate::fault::{Part, StartFault, Unmet};
 use crate::needs::require;
-use crate::words::Word;
 use elf::{ElfRule, Program};
+use elf_memory::{Argument, Word};
 use std::alloc::Global;
 
 /// So far behind an address, modulo 2^32.

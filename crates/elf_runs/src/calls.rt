@@ -6,12 +6,12 @@ ghost use Rattle.elf_runs.specs.Needs.{first_unmet, IsTold, needs};
 ghost use Rattle.elf_runs.specs.Calls.{calls_behind, LeadThere, with_call};
 ghost use Rattle.elf_runs.specs.Loading.{machine_program, state_at_start};
 
-use crate::asked::Asked;
 use crate::fault::StartFault;
 use crate::loading::load_function;
 use crate::options::RunOptions;
 use arrayvec::ArrayVec;
 use elf::Program;
+use elf_memory::Asked;
 use rv_code::{Instr, Reg};
 use rv_machine::hart::Hart;
 use rv_machine::memory::Memory;
@@ -87,7 +87,7 @@ fn instruction_at<P: MachineProgram>(program: &P, pc: u32) -> Option<&Instr>
 }
 
 /// The calls that lead to the step behind so many entries.
-pub(crate) fn calls_behind_entries<P: MachineProgram, M: Memory>(
+pub fn calls_behind_entries<P: MachineProgram, M: Memory>(
     program: &P,
     hart: &mut Hart,
     memory: &mut M,

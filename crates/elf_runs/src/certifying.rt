@@ -3,13 +3,12 @@
 ghost use Rattle.std.specs.Prelude.{◌≡◌, ◌^◌, ◌<◌};
 ghost use Rattle.elf_runs.specs.Certified.{certificate_at, CertifiedFunction};
 
-use crate::asked::Asked;
 use crate::fault::StartFault;
 use crate::loading::load_function;
 use crate::options::RunOptions;
-use crate::stops::FunctionStop;
 use certified_runs::{CertifiedEnd, certify};
 use elf::Program;
+use elf_memory::{Asked, FunctionStop};
 use std::alloc::Global;
 
 /// How a certified run of a function ends. Entries are what an observer sees, one by one: each program counter, and

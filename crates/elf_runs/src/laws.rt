@@ -2,12 +2,12 @@
 
 ghost use Rattle.std.specs.Prelude.{◌≡◌, ◌≢◌, ℕ, ◌+◌, ◌++◌, ◌∷◌, [], List, length, None, Result, Ok, Err, true};
 ghost use Rattle.std.specs.List.{list_all};
-ghost use Rattle.elf_runs.specs.Arguments.{stack_begin};
+ghost use Rattle.elf_memory.specs.Arguments.{stack_begin};
 ghost use Rattle.elf_runs.specs.Below.{AreApart, entries_of, Entry, Executable, Observation, program_counter};
 ghost use Rattle.elf_runs.specs.Certified.{CertifiedFunction};
 ghost use Rattle.elf_runs.specs.Needs.{ends_by, first_unmet, needs};
 ghost use Rattle.elf_runs.specs.Promised.{AllBegin, AllShiftBy, AllShow};
-ghost use Rattle.elf_runs.specs.declared.asked.Asked.{Asked};
+ghost use Rattle.elf_memory.specs.declared.asked.Asked.{Asked};
 ghost use Rattle.elf_runs.specs.declared.certifying.FunctionCertificate.{FunctionCertificate};
 ghost use Rattle.elf_runs.specs.declared.fault.StartFault.{StartFault};
 ghost use Rattle.elf_runs.specs.declared.options.RunOptions.{RunOptions};
@@ -15,8 +15,8 @@ ghost use Rattle.elf_runs.specs.declared.options.RunOptions.{RunOptions};
 use crate::certifying::FunctionCertificate;
 use crate::fault::StartFault;
 use crate::options::RunOptions;
-use crate::stops::FunctionStop;
 use certified_runs::Shifts;
+use elf_memory::FunctionStop;
 
 /// Each segment ends where the stack begins, or before: so none has an address in common with the stack, and in none
 /// lies the address that the function returns to.

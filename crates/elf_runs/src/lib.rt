@@ -1,5 +1,4 @@
-// Runs of a function of an executable: what they begin with, how they end, what an observer sees of all of them, and of
-// which two it sees not the same.
+// Runs of a function of an executable: what they begin with, how they end, and what an observer sees of all of them.
 //
 // `prepare` gives the state in which a run of a function of a program that `elf` read begins, as a user asks for it:
 // with these arguments, these objects secret, these bytes in memory, a stack of this size. It says of each register and
@@ -10,49 +9,37 @@
 //
 // `certify_function` makes one run for all that is not known, and its answer is a promise on every run that begins in a
 // state which agrees with what is known (`laws.rt`). Where an entry may differ, `calls_to` gives the calls that lead
-// there. `find_witness` looks for two runs that differ in what is secret alone, and of which an observer sees not the
-// same; that it finds none promises nothing.
+// there.
+//
+// What registers and memory hold at the beginning stands in `elf_memory`, whose types are passed on here.
 #![tactic(auto)]
 
 mod arguments;
-mod asked;
 mod calls;
 mod certifying;
 mod code;
-mod comparing;
 mod fault;
 mod laws;
 mod loaded_code;
 mod loading;
-mod memory;
-mod memory_range;
 mod needs;
 mod objects;
 mod options;
-mod registers;
-mod secrets;
 mod settings;
 mod stack;
 mod starting;
-mod stops;
-mod witnessing;
-mod words;
 
-pub use asked::{Argument, Asked, Secret, Setting};
-pub use calls::{Calls, calls_to};
+pub use calls::{Calls, calls_behind_entries, calls_to};
 pub use certifying::{FunctionCertificate, certificate_at, certify_function};
 pub use code::program_code;
-pub use comparing::Reached;
+pub use elf_memory::{
+    Argument, Asked, FunctionStop, MemoryRange, RETURN_ADDRESS, STACK_END, Secret, Setting, Word,
+};
 pub use fault::{Part, StartFault, Unmet};
 pub use laws::{
     certificates_of_functions_hold, function_certificates_agree, segments_end_below_the_stack,
 };
 pub use loaded_code::{Code, PlacedHalfwords, PlacedWords};
 pub use loading::{LoadedFunction, load_function};
-pub use memory_range::MemoryRange;
 pub use options::RunOptions;
-pub use stack::{RETURN_ADDRESS, STACK_END};
 pub use starting::{Start, prepare};
-pub use stops::FunctionStop;
-pub use witnessing::{Witness, find_witness};
-pub use words::Word;

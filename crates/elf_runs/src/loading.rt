@@ -1,26 +1,23 @@
 // A function, loaded into a machine, and what is known of the state in which its run begins.
 
-ghost use Rattle.std.specs.Prelude.{◌≡◌, ◌+◌, ℕ, None, length, map, is_some, IfOk, IfErr};
-ghost use Rattle.elf_runs.specs.Below.{code_in, known_of, lies_within, no_code, paged_bytes, program_of, Size};
-ghost use Rattle.elf_runs.specs.Below.{state_of};
+ghost use Rattle.std.specs.Prelude.{◌≡◌, ℕ, None, map, is_some, IfOk, IfErr};
+ghost use Rattle.elf_runs.specs.Below.{code_in, known_of, no_code, paged_bytes, program_of, Size, state_of};
 ghost use Rattle.elf_runs.specs.Needs.{first_unmet, IsTold, needs};
 ghost use Rattle.elf_runs.specs.Code.{halfwords_from, placed, words_from};
-ghost use Rattle.elf_runs.specs.Memory.{range_of};
-ghost use Rattle.elf_runs.specs.Loading.{alignment_by, code_among, is_variable, item_at, known_at_start};
-ghost use Rattle.elf_runs.specs.Loading.{machine_program, may_be_stored_to};
+ghost use Rattle.elf_memory.specs.Memory.{range_of};
+ghost use Rattle.elf_runs.specs.Loading.{alignment_by, code_among, known_at_start, machine_program};
 ghost use Rattle.elf_runs.specs.private.Loaded.{IsSegmentOf, program_over};
 
-use crate::asked::Asked;
 use crate::code::program_code;
 use crate::fault::StartFault;
 use crate::loaded_code::{Code, PlacedHalfwords, PlacedWords};
-use crate::memory_range::MemoryRange;
 use crate::options::RunOptions;
 use crate::starting::{Start, prepare};
 use certified_runs::{KnownParts, Shifts};
 use elf::Program;
+use elf_memory::{Asked, MemoryRange, marks_of, memory_of, variable_ranges};
 use rv_machine::hart::Hart;
-use rv_machine::{AddressRange, PagedMemory, Running, Size};
+use rv_machine::{PagedMemory, Running, Size};
 use rv_programs::{CodeSegment, LoadedProgram};
 use std::alloc::{AllocError, Global};
 use word::Profile;
@@ -102,74 +99,6 @@ fn alignment_of(compressed: bool) -> Size
     ensures { result ≡ alignment_by compressed }
 {
     if compressed { Size::Half } else { Size::Word }
-}
-
-/// The addresses of a range.
-fn addresses_of(range: &MemoryRange) -> AddressRange
-    ensures begin { result.begin ≡ range.now.address }
-    ensures end { result.end ≡ range.now.address + length range.now.bytes.items }
-{
-    let begin = u64::from(range.address);
-    AddressRange {
-        begin,
-        end: begin + range.bytes.len() as u64,
-    }
-}
-
-/// Whether a range may be stored to.
-fn is_variable(range: &MemoryRange) -> bool
-    ensures { result ≡ is_variable (range_of range.now) }
-{
-    range.access.writable && !range.access.executable
-}
-
-/// The ranges that may be stored to.
-fn variable_ranges(alloc: Global, ranges: &[MemoryRange]) -> Result<Vec<AddressRange>, AllocError>
-    ensures { IfOk result (λ variable.
-        lies_within variable.items ≡ may_be_stored_to (map range_of ranges.now)) }
-{
-    let mut variable = Vec::new(alloc);
-    'each: for range in ranges {
-        if is_variable(range) {
-            variable.push(addresses_of(range))?;
-        }
-    }
-    Ok(variable)
-}
-
-/// A memory without data.
-fn no_memory(alloc: Global) -> Result<PagedMemory, AllocError>
-    ensures { IfOk result (λ memory. (a : ℕ) → paged_bytes memory a ≡ None) }
-{
-    PagedMemory::new(alloc, &[])
-}
-
-/// A memory of the ranges' bytes. The last range comes first in it: that is the stack, where most accesses are.
-fn memory_of(alloc: Global, ranges: &[MemoryRange]) -> Result<PagedMemory, AllocError>
-    ensures { IfOk result (λ memory.
-        paged_bytes memory ≡ item_at (λ range. range.bytes) (map range_of ranges.now)) }
-{
-    let mut memory = no_memory(alloc)?;
-    'each: for k in (0..ranges.len()).rev() {
-        let range = &ranges[k];
-        let size = range.bytes.len() as u32;
-        memory.add(alloc, range.address, size, range.bytes.as_slice())?;
-    }
-    Ok(memory)
-}
-
-/// A memory of the masks of their bits that are not known.
-fn marks_of(alloc: Global, ranges: &[MemoryRange]) -> Result<PagedMemory, AllocError>
-    ensures { IfOk result (λ memory.
-        paged_bytes memory ≡ item_at (λ range. range.unknown) (map range_of ranges.now)) }
-{
-    let mut memory = no_memory(alloc)?;
-    'each: for k in (0..ranges.len()).rev() {
-        let range = &ranges[k];
-        let size = range.unknown.len() as u32;
-        memory.add(alloc, range.address, size, range.unknown.as_slice())?;
-    }
-    Ok(memory)
 }
 
 /// What a program is to the machine, where a run begins with this memory.

@@ -2,7 +2,7 @@
 
 ghost use Rattle.std.specs.Prelude.{◌≡◌, IfSome};
 ghost use Rattle.std.specs.List.{list_any};
-ghost use Rattle.elf_runs.specs.Objects.{lies_in, object_of};
+ghost use Rattle.elf_memory.specs.Objects.{lies_in, object_of};
 
 use elf::{Object, Program, Segment};
 

@@ -2,16 +2,14 @@
 
 ghost use Rattle.std.specs.Prelude.{◌≡◌, ◌≤◌, Some, None, length, map, OnOk, IfOk, IfErr};
 ghost use Rattle.std.specs.List.{fold};
-ghost use Rattle.elf_runs.specs.Memory.{hide_in, range_of, set_in};
+ghost use Rattle.elf_memory.specs.Memory.{hide_in, range_of, set_in};
 ghost use Rattle.elf_runs.specs.Needs.{IsTold, Meets, each_from, first_unmet, secret_needs, setting_needs};
-ghost use Rattle.elf_runs.specs.Objects.{object_of};
+ghost use Rattle.elf_memory.specs.Objects.{object_of};
 
-use crate::asked::{Secret, Setting};
 use crate::fault::{Part, StartFault, Unmet};
-use crate::memory::{hide_object, set_object};
-use crate::memory_range::MemoryRange;
 use crate::objects::object_of;
 use elf::{ElfRule, Object, Program};
+use elf_memory::{MemoryRange, Secret, Setting, hide_object, set_object};
 use std::alloc::Global;
 
 /// The object of a secret.

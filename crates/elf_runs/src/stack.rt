@@ -2,45 +2,19 @@
 
 ghost use Rattle.std.specs.Prelude.{◌≡◌, ◌*◌, ◌+◌, ◌<◌, ◌≤◌, ◌^◌, length, IfOk, nat_le};
 ghost use Rattle.std.specs.List.{list_all};
-ghost use Rattle.elf_runs.specs.Arguments.{pushed_size, rounded, stack_begin, stack_end, stack_pointer};
+ghost use Rattle.elf_memory.specs.Arguments.{rounded, stack_begin};
 ghost use Rattle.elf_runs.specs.Below.{memory_of, most_memory};
-ghost use Rattle.elf_runs.specs.Memory.{range_of, stack_range};
+ghost use Rattle.elf_memory.specs.Memory.{range_of, stack_range};
 ghost use Rattle.elf_runs.specs.Needs.{Meets, ends_by, stack_needs};
 
-use crate::asked::Asked;
 use crate::fault::{Part, Unmet};
-use crate::memory_range::MemoryRange;
 use crate::needs::require;
-use crate::words::Word;
 use elf::{Access, ElfRule, Program, Segment};
+use elf_memory::{Asked, MemoryRange, STACK_END, Word, rounded};
 use std::alloc::{AllocError, Global};
-
-/// Where the stack ends. This is fixed, so that the addresses that a run shows do not depend on the other segments. It
-/// is high, since RAM, flash and ROM are below it.
-pub const STACK_END: u32 = 0xffff_fff0;
-
-/// The address that the function returns to. It lies behind the stack, where no segment is: so a run that comes to it
-/// stops there.
-pub const RETURN_ADDRESS: u32 = 0xffff_fff8;
 
 /// The most bytes of memory that the segments and the stack have together.
 const MOST_MEMORY: u32 = 1 << 24;
-
-/// The next multiple of 16.
-fn rounded(n: u64) -> u64
-    requires { n < 2 ^ 60 }
-    ensures { result ≡ rounded n }
-{
-    n.div_ceil(16) * 16
-}
-
-/// Where the stack pointer stands before a function with so many arguments.
-pub(crate) fn stack_pointer(count: usize) -> u32
-    requires { pushed_size count ≤ 2 ^ 24 }
-    ensures { result ≡ stack_pointer count }
-{
-    STACK_END - rounded(4 * count.saturating_sub(8) as u64) as u32
-}
 
 /// Whether segments and a stack are not too large together.
 fn fits(segments: &[Segment<'_>], stack: u32) -> bool

@@ -1,23 +1,19 @@
 // What a run of a function begins with.
 
 ghost use Rattle.std.specs.Prelude.{◌≡◌, ◌<◌, ℕ, Some, None, map, slice_index, IfOk, IfErr};
-ghost use Rattle.elf_runs.specs.Arguments.{pushed, words_of};
-ghost use Rattle.elf_runs.specs.Begin.{register_of};
+ghost use Rattle.elf_memory.specs.Arguments.{pushed, words_of};
+ghost use Rattle.elf_memory.specs.Begin.{register_of};
 ghost use Rattle.elf_runs.specs.Below.{function_named};
-ghost use Rattle.elf_runs.specs.Memory.{memory_at_start, range_of};
+ghost use Rattle.elf_memory.specs.Memory.{memory_at_start, range_of};
 ghost use Rattle.elf_runs.specs.Needs.{argument_needs, each_from, first_unmet, function_needs, IsTold, Meets, needs};
 ghost use Rattle.elf_runs.specs.Needs.{stack_needs};
 
 use crate::arguments::words_of;
-use crate::asked::Asked;
 use crate::fault::{Part, StartFault, Unmet};
-use crate::memory::loaded_segments;
-use crate::memory_range::MemoryRange;
-use crate::registers::{Registers, global_pointer};
 use crate::settings::{hide_secrets, set_objects};
 use crate::stack::{check_stack, stack_range};
-use crate::words::Word;
 use elf::{ElfRule, Program};
+use elf_memory::{Asked, MemoryRange, Registers, Word, global_pointer, loaded_segments};
 use std::alloc::Global;
 
 /// What a run begins with: the program counter, what the registers hold, of each of them a mask of the bits that are

@@ -1,6 +1,6 @@
 use Rattle.std.proofs.Common.{◌≡◌, ◌∙◌, ◌+◌, ◌<◌, ◌++◌, ◌∷◌, ℕ, List, [], ap, ap₂, arith, get_or, length, map, sym, take}
 use Rattle.std.proofs.lemmas.List.{at_drop_all, map_more, take_all}
-use Rattle.elf_runs.specs.Arguments.{word_of}
+use Rattle.elf_memory.specs.Arguments.{word_of}
 use Rattle.elf_runs.specs.Needs.{argument_needs, each_from, first_unmet}
 use Rattle.elf_runs.proofs.Meeting.{item_held, item_there, item_unmet, told_on}
 use Rattle.elf_runs.proofs.arguments.words_of.Goals as goal

@@ -1,5 +1,5 @@
 use Rattle.std.proofs.Common.{◌≡◌, drop, map, take}
-use Rattle.elf_runs.specs.Arguments.{word_of}
+use Rattle.elf_memory.specs.Arguments.{word_of}
 use Rattle.elf_runs.specs.Needs.{argument_needs, each_from, first_unmet}
 use Rattle.elf_runs.proofs.arguments.words_of.Given as goal
 

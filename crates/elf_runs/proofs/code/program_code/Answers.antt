@@ -1,5 +1,5 @@
 use Rattle.std.proofs.Common.{[]}
-use Rattle.elf_runs.proofs.Filling.{within_at}
+use Rattle.elf_memory.proofs.Filling.{within_at}
 use Rattle.elf_runs.proofs.code.program_code.Goals as goal
 
 pub code_of-requires : goal.code_of-requires

@@ -1,12 +1,12 @@
 use Rattle.std.specs.Prelude.{is_some}
 use Rattle.std.proofs.Common.{◌≡◌, ◌∙◌, List, ap, length, map, rules, sym}
 use Rattle.elf_runs.specs.Below.{ByteMap, paged_bytes, pc_of, regs_of, state_of}
-use Rattle.elf_runs.specs.declared.memory_range.MemoryRange.{MemoryRange}
-use Rattle.elf_runs.specs.Memory.{range_of, RangeState}
-use Rattle.elf_runs.specs.Loading.{item_at}
+use Rattle.elf_memory.specs.declared.memory_range.MemoryRange.{MemoryRange}
+use Rattle.elf_memory.specs.Memory.{range_of, RangeState}
+use Rattle.elf_memory.specs.Ranges.{item_at}
 use Rattle.elf_runs.specs.private.Loaded.{program_over}
 use Rattle.elf_runs.proofs.Beginning.{known_is, masks_read, registers_read, state_is}
-use Rattle.elf_runs.proofs.Ranges.{marks_there}
+use Rattle.elf_memory.proofs.Ranges.{marks_there}
 use Rattle.elf_runs.proofs.loading.load_function.Goals as goal
 
 pub returns-clause-program : goal.returns-clause-program

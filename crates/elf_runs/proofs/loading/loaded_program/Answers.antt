@@ -4,7 +4,7 @@ use Rattle.elf_runs.specs.Below.{code_in, no_code, Size}
 use Rattle.elf_runs.specs.declared.loaded_code.Code.{Code}
 use Rattle.elf_runs.specs.Code.{placed, PlacedCode}
 use Rattle.elf_runs.specs.Loading.{alignment_by, code_among}
-use Rattle.elf_runs.specs.Memory.{range_of}
+use Rattle.elf_memory.specs.Memory.{range_of}
 use Rattle.elf_runs.proofs.Beginning.{program_is}
 use Rattle.elf_runs.proofs.loading.loaded_program.Goals as goal
 

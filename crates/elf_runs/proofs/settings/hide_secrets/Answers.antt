@@ -1,7 +1,7 @@
 use Rattle.std.proofs.Common.{◌≡◌, ◌∙◌, ◌+◌, ap, arith, drop, map, sym}
 use Rattle.std.proofs.lemmas.List.{at_drop_all}
 use Rattle.std.specs.List.{fold}
-use Rattle.elf_runs.specs.Memory.{hide_in, hide_object, range_of}
+use Rattle.elf_memory.specs.Memory.{hide_in, hide_object, range_of}
 use Rattle.elf_runs.specs.Needs.{each_from, first_unmet, secret_needs}
 use Rattle.elf_runs.proofs.Meeting.{item_held, item_there, item_unmet, told_on}
 use Rattle.elf_runs.proofs.settings.hide_secrets.Goals as goal

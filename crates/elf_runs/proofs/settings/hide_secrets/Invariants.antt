@@ -1,6 +1,6 @@
 use Rattle.std.proofs.Common.{◌≡◌, drop, map}
 use Rattle.std.specs.List.{fold}
-use Rattle.elf_runs.specs.Memory.{hide_in, range_of}
+use Rattle.elf_memory.specs.Memory.{hide_in, range_of}
 use Rattle.elf_runs.specs.Needs.{each_from, first_unmet, secret_needs}
 use Rattle.elf_runs.proofs.settings.hide_secrets.Given as goal
 

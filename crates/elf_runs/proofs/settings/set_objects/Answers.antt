@@ -1,7 +1,7 @@
 use Rattle.std.proofs.Common.{◌≡◌, ◌∙◌, ◌+◌, ap, arith, drop, map, sym}
 use Rattle.std.proofs.lemmas.List.{at_drop_all}
 use Rattle.std.specs.List.{fold}
-use Rattle.elf_runs.specs.Memory.{range_of, set_in, set_object, with_bytes}
+use Rattle.elf_memory.specs.Memory.{range_of, set_in, set_object, with_bytes}
 use Rattle.elf_runs.specs.Needs.{each_from, first_unmet, setting_needs}
 use Rattle.elf_runs.proofs.Meeting.{item_held, item_there, item_unmet, passed_on}
 use Rattle.elf_runs.proofs.settings.set_objects.Goals as goal

@@ -1,6 +1,6 @@
 use Rattle.std.proofs.Common.{◌≡◌, drop, map}
 use Rattle.std.specs.List.{fold}
-use Rattle.elf_runs.specs.Memory.{range_of, set_in}
+use Rattle.elf_memory.specs.Memory.{range_of, set_in}
 use Rattle.elf_runs.specs.Needs.{each_from, first_unmet, setting_needs}
 use Rattle.elf_runs.proofs.settings.set_objects.Given as goal
 

@@ -1,5 +1,5 @@
 use Rattle.std.proofs.Common.{◌-◌, ◌*◌, ◌++◌, ◌∙◌, ap, arith, length, replicate}
-use Rattle.elf_runs.specs.Arguments.{rounded}
+use Rattle.elf_memory.specs.Arguments.{rounded}
 use Rattle.elf_runs.proofs.Filling.{filled, stack_is, word_more}
 use Rattle.elf_runs.proofs.stack.stack_range.Goals as goal
 

@@ -1,7 +1,7 @@
 use Rattle.std.proofs.Common.{◌≡◌, ◌++◌, ◌-◌, ◌*◌, length, map, replicate, take, w32}
 use Rattle.std.specs.Int.{to_le_bytes}
 use Rattle.std.specs.List.{flat_map}
-use Rattle.elf_runs.specs.Arguments.{rounded}
+use Rattle.elf_memory.specs.Arguments.{rounded}
 use Rattle.elf_runs.proofs.stack.stack_range.Given as goal
 
 abbrev pub invariant-words : goal.invariant-words

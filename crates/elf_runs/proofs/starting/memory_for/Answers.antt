@@ -1,12 +1,12 @@
 use Rattle.std.proofs.Common.{◌≡◌, ◌≤◌, ◌∙◌, ◌++◌, ◌∷◌, ◌*◌, List, [], None, ap, ap₂, length, length-drop, map}
 use Rattle.std.specs.List.{fold}
 use Rattle.std.proofs.lemmas.List.{length-map, map-append}
-use Rattle.elf_runs.specs.Arguments.{pushed, rounded, word_of, words_of}
+use Rattle.elf_memory.specs.Arguments.{pushed, rounded, word_of, words_of}
 use Rattle.elf_runs.specs.Below.{Executable}
-use Rattle.elf_runs.specs.Memory.{hide_in, loaded, memory_at_start, range_of, RangeState, set_in, stack_range}
+use Rattle.elf_memory.specs.Memory.{hide_in, loaded, memory_at_start, range_of, RangeState, set_in, stack_range}
 use Rattle.elf_runs.specs.Needs.{each_from, first_unmet, needs, secret_needs, stack_needs}
-use Rattle.elf_runs.specs.declared.asked.Asked.{Asked}
-use Rattle.elf_runs.specs.declared.words.Word.{Word}
+use Rattle.elf_memory.specs.declared.asked.Asked.{Asked}
+use Rattle.elf_memory.specs.declared.words.Word.{Word}
 use Rattle.elf_runs.proofs.Answering.{secret_first, setting_first, stack_holds, stack_last}
 use Rattle.elf_runs.proofs.Meeting.{told_of, told_on}
 use Rattle.elf_runs.proofs.starting.memory_for.Goals as goal

@@ -1,11 +1,11 @@
 use Rattle.std.proofs.Common.{◌≡◌, ◌≤◌, ◌∙◌, ◌^◌, ℕ, List, None, ap, ap₂, arith, codes, length}
 use Rattle.std.proofs.lemmas.List.{length-map}
-use Rattle.elf_runs.specs.Arguments.{pushed_size, word_of, words_of}
-use Rattle.elf_runs.specs.Begin.{global_pointer, register_by, register_of}
+use Rattle.elf_memory.specs.Arguments.{pushed_size, word_of, words_of}
+use Rattle.elf_memory.specs.Begin.{global_pointer, register_by, register_of}
 use Rattle.elf_runs.specs.Below.{address_named, Executable}
 use Rattle.elf_runs.specs.Needs.{argument_needs, each_from, first_unmet, needs, stack_needs}
-use Rattle.elf_runs.specs.declared.asked.Asked.{Asked}
-use Rattle.elf_runs.specs.declared.words.Word.{Word}
+use Rattle.elf_memory.specs.declared.asked.Asked.{Asked}
+use Rattle.elf_memory.specs.declared.words.Word.{Word}
 use Rattle.elf_runs.proofs.Answering.{argument_first, function_first, stack_holds}
 use Rattle.elf_runs.proofs.Meeting.{told_of, told_on}
 use Rattle.elf_runs.proofs.starting.prepare.Goals as goal

@@ -1,7 +1,0 @@
-use Rattle.elf_runs.proofs.Found.{calls_so}
-use Rattle.elf_runs.proofs.witnessing.calls_by.Goals as goal
-
-pub returns-clause-calls : goal.returns-clause-calls
-returns-clause-calls c =
-    let loaded = c.in_ok-loaded.ensures.loaded in
-    (loaded.0, loaded.1, calls_so loaded.2 c.calls_behind_entries.ensures)
