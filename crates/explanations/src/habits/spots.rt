@@ -4,12 +4,13 @@ ghost use Rattle.std.specs.Prelude.{◌≡◌, length};
 ghost use Rattle.std.specs.List.{filter, fold};
 ghost use Rattle.tokens.specs.Lexeme.{lexeme, lexemes};
 ghost use Rattle.explanations.specs.habits.Spots.{after_token, count_before, ends_statement, is_before, nowhere};
-ghost use Rattle.explanations.specs.habits.Spots.{region_at, spot_around, spot_of, statement_start};
+ghost use Rattle.explanations.specs.habits.Spots.{passed, reached, region_at, spot_around, spot_of};
+ghost use Rattle.explanations.specs.habits.Spots.{statement_start};
 
 use syntax::Token;
 
 /// A part of a program.
-#[derive(Clone, Copy, Debug, PartialEq, Eq)]
+#[derive(Clone, Copy, PartialEq, Eq)]
 pub(crate) enum Region {
     /// Outside procedures.
     Outside,
@@ -66,21 +67,35 @@ impl<'a> Spot<'a> {
     fn after_token(self, token: &Token<'a>, at: u32) -> Self
         ensures { spot_of result ≡ after_token at (spot_of self.entry) (lexeme token.now) }
     {
-        let text = token.text;
         if token.place.offset < at {
-            let start = if ends_statement(self.before) {
-                text
-            } else {
-                self.start
-            };
-            let second = self.before;
-            Spot {
-                start,
-                second,
-                before: text,
-                ..self
-            }
-        } else if self.here == "" {
+            self.passed(token.text)
+        } else {
+            self.reached(token.text)
+        }
+    }
+
+    /// What a token before the place adds.
+    fn passed(self, text: &'a str) -> Self
+        ensures { spot_of result ≡ passed (spot_of self.entry) text.now }
+    {
+        let start = if ends_statement(self.before) {
+            text
+        } else {
+            self.start
+        };
+        Spot {
+            start,
+            second: self.before,
+            before: text,
+            ..self
+        }
+    }
+
+    /// What a token at the place or behind it adds.
+    fn reached(self, text: &'a str) -> Self
+        ensures { spot_of result ≡ reached (spot_of self.entry) text.now }
+    {
+        if self.here == "" {
             Spot { here: text, ..self }
         } else if self.next == "" {
             Spot { next: text, ..self }

@@ -61,14 +61,36 @@ fn beginning_of(part: &[u8]) -> &[u8]
     &part[..MOST_SHOWN.min(part.len())]
 }
 
+/// The bytes at the end of a part that are shown.
+fn end_of(part: &[u8]) -> &[u8]
+    ensures { result.now ≡ end_of part.now }
+{
+    &part[part.len().saturating_sub(MOST_SHOWN)..]
+}
+
+/// The bytes before a place.
+#[tactic(auto, using(std::proofs::lemmas::List::take_min))]
+fn before(source: &[u8], offset: u32) -> &[u8]
+    ensures { result.now ≡ take offset source.now }
+{
+    &source[..source.len().min(offset as usize)]
+}
+
+/// The bytes from a place on.
+fn behind(source: &[u8], offset: u32) -> &[u8]
+    ensures { result.now ≡ drop offset source.now }
+{
+    &source[source.len().min(offset as usize)..]
+}
+
 /// The part of the line before a place.
 pub fn front(source: &[u8], offset: u32) -> ExcerptPart<'_>
     ensures bytes { result.bytes.now ≡ end_of (last_line (take offset source.now)) }
     ensures dots { result.dots.now ≡ dots (last_line (take offset source.now)) }
 {
-    let line = last_line(&source[..source.len().min(offset as usize)]);
+    let line = last_line(before(source, offset));
     ExcerptPart {
-        bytes: &line[line.len().saturating_sub(MOST_SHOWN)..],
+        bytes: end_of(line),
         dots: dots(line),
     }
 }
@@ -78,7 +100,7 @@ pub fn back(source: &[u8], offset: u32) -> ExcerptPart<'_>
     ensures bytes { result.bytes.now ≡ take most_shown (first_line (drop offset source.now)) }
     ensures dots { result.dots.now ≡ dots (first_line (drop offset source.now)) }
 {
-    let line = first_line(&source[source.len().min(offset as usize)..]);
+    let line = first_line(behind(source, offset));
     ExcerptPart {
         bytes: beginning_of(line),
         dots: dots(line),
